@@ -1,1 +1,2 @@
 pub mod Coder
+pub mod Register
