@@ -1,15 +1,16 @@
 -- A loop that fills the first places of lent memory, one after the other. Assumes nothing.
-use mathlib.Core.Path.{_≡_, sym, ap, _∙_}
+use mathlib.Core.Path.{_≡_, refl, sym, ap, _∙_}
 use mathlib.Core.List.{List, [], _∷_, _++_, map, append-assoc, append-nil}
-use Prim.Native.Nat.{ℕ, zero, suc, _+_, _<_}
-use native.Mathlib.Nat.{add-zero, zero-add}
+use Prim.Native.Nat.{ℕ, zero, suc, _+_, _*_, _<_}
+use native.Mathlib.Nat.{add-zero, zero-add, mul-zero, mul-suc}
 use native.Mathlib.Numerals.{add-one}
 use native.Mathlib.Omega.{arith}
 use lib.ListN.{length, set, take, drop}
 use borrow.Rule.Slice.PartMut.{putMid}
 use Rattle.std.specs.Iters.{counting}
+use Rattle.std.specs.Joined.{joined}
 use Rattle.std.proofs.shelf.Counted.{fill-by-all, getD-map-counting, length-map-counting, map-counting-more}
-use Rattle.std.proofs.shelf.Lists.{drop-at, drop-drop, drop-more, set-at, take-at}
+use Rattle.std.proofs.shelf.Lists.{joined-more, length-append, map-id, drop-at, drop-drop, drop-more, set-at, take-at}
 
 -- memory whose first n places hold f of their place, and whose rest is as found
 abbrev pub filled : {X : Type 0} → (ℕ → X) → ℕ → List X → List X
@@ -51,3 +52,40 @@ filled-part f g n k j memory ys next is same =
     ∙ sym (append-assoc front (map (λ i. f (n + i)) (counting 0 k)) (drop (n + k) memory))
     ∙ ap (λ l. l ++ drop (n + k) memory) (split-map f n k)
     ∙ ap (λ m. filled f m memory) next
+
+-- memory in whose first places a list was laid
+abbrev pub laid : {X : Type 0} → List X → List X → List X
+laid xs memory = xs ++ drop (length xs) memory
+
+-- k more places are written behind it, as `&mut memory[n..n + k]`
+pub laid-more : {X : Type 0} (xs ys memory : List X) (n k : ℕ) → length xs ≡ n → length ys ≡ k → putMid n k (laid xs memory) ys ≡ laid (xs ++ ys) memory
+laid-more xs ys memory n k long more =
+    (λ i. take-at xs (drop (length xs) memory) n long i ++ (ys ++ drop k (drop-at xs (drop (length xs) memory) n long i)))
+    ∙ ap (λ l. xs ++ (ys ++ l)) (drop-drop k (length xs) memory)
+    ∙ sym (append-assoc xs ys (drop (length xs + k) memory))
+    ∙ ap (λ m. (xs ++ ys) ++ drop m memory) (ap (λ m. length xs + m) (sym more) ∙ sym (length-append xs ys))
+
+-- a list that is joined place by place, one place more
+pub joined-counting-more : {X : Type 0} (f : ℕ → List X) (start : List X) (n : ℕ) → (start ++ joined f (counting 0 n)) ++ f n ≡ start ++ joined f (counting 0 (n + 1))
+joined-counting-more f start n =
+    let more : counting 0 (n + 1) ≡ counting 0 n ++ n ∷ [] = sym (map-id (counting 0 (n + 1))) ∙ map-counting-more (λ m. m) 0 n n (zero-add n) ∙ ap (λ l. l ++ n ∷ []) (map-id (counting 0 n)) in
+    joined-more f start (counting 0 n) n ∙ ap (λ l. start ++ joined f l) (sym more)
+
+-- its length, where each place gives as many
+pub length-joined : {X : Type 0} (f : ℕ → List X) (k : ℕ) → ((i : ℕ) → length (f i) ≡ k) → (n : ℕ) → length (joined f (counting 0 n)) ≡ k * n
+length-joined f k each zero = sym (mul-zero k)
+length-joined f k each (suc n) =
+    ap length (ap (λ m. joined f (counting 0 m)) (sym (add-one n)) ∙ sym (joined-counting-more f [] n))
+    ∙ length-append (joined f (counting 0 n)) (f n)
+    ∙ (λ i. length-joined f k each n i + each n i)
+    ∙ sym (mul-suc k n)
+
+-- what was laid first does not matter once more is laid over it
+pub laid-over : {X : Type 0} (xs ys memory : List X) → laid (xs ++ ys) (laid xs memory) ≡ laid (xs ++ ys) memory
+laid-over xs ys memory =
+    ap (λ l. (xs ++ ys) ++ l)
+    (ap (λ m. drop m (laid xs memory)) (length-append xs ys)
+    ∙ sym (drop-drop (length ys) (length xs) (laid xs memory))
+    ∙ ap (drop (length ys)) (drop-at xs (drop (length xs) memory) (length xs) refl)
+    ∙ drop-drop (length ys) (length xs) memory
+    ∙ ap (λ m. drop m memory) (sym (length-append xs ys)))

@@ -111,7 +111,7 @@ impl Tone {
 }
 
 // Refuses elements that cannot be played: an odd count, or an octet above 2.
-fn check_elements(elements: &[u8]) -> Result<(), Refusal>
+pub fn check_elements(elements: &[u8]) -> Result<(), Refusal>
     ensures { λ r. ⌜ r ≡ refused-when (bad (now (elements .entry))) BadElements (Ok tt) ⌝ }
 {
     if elements.len() % 2 == 1 {
