@@ -61,10 +61,11 @@ pub trait MarkedStage: Stage {
     // its markers for each count of incoming elements, in order
     ghost markers: { Self → ℕ → List MarkerOf };
 
-    // How many markers there are when n elements enter. They stand at different places.
+    // How many markers there are when n elements enter. They stand at different places, each of which holds its bit.
     fn marker_count(&self, n: usize) -> Result<usize, Refusal>
         ensures count { λ r. ⌜ r ≡ count-answer (Self·Stage .takes (now (self .entry))) (markers (now (self .entry))) n ⌝ }
-        ensures apart { λ _. ⌜ Apart (Self·Stage .takes (now (self .entry))) (markers (now (self .entry))) n ⌝ };
+        ensures apart { λ _. ⌜ Apart (Self·Stage .takes (now (self .entry))) (markers (now (self .entry))) n ⌝ }
+        ensures fixed { λ _. ⌜ Told (meaning-of (Self·Stage .takes (now (self .entry))) (Self·Stage .size (now (self .entry))) (Self·Stage .at (now (self .entry)))) (markers (now (self .entry))) n ⌝ };
 
     // The marker with an index when n elements enter. Its place holds its bit.
     fn marker(&self, n: usize, index: usize) -> Result<Marker, Refusal>
