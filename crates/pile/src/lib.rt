@@ -1,8 +1,8 @@
 // A pile of two stages is again a stage: what leaves the lower enters the upper.
 ghost use mathlib.Core.Path.{_≡_};
 ghost use Rattle.stage.specs.Meaning.{Homes, meaning-of, length-answer, content-answer, home-answer};
-ghost use Rattle.pile.specs.Piled.{piled, piled-markers, Enters};
-ghost use Rattle.pile.proofs.Homes.{piled-homes};
+ghost use Rattle.stage.specs.Piled.{piled, piled-markers, Enters};
+ghost use Rattle.stage.proofs.Homes.{piled-homes};
 use refusal::Refusal;
 use stage::Content;
 use stage::Stage;
@@ -37,8 +37,8 @@ pub impl<L: Stage, U: Stage> Stage for Pile<L, U> as PileStage {
     }
 
     fn home(&self, n: usize, element: usize) -> Result<usize, Refusal> {
-        self.length(n)?;
         let middle = self.lower.length(n)?;
+        self.upper.length(middle)?;
         self.upper.home(middle, self.lower.home(n, element)?)
     }
 }
