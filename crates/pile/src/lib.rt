@@ -1,10 +1,12 @@
 // A pile of two stages is again a stage: what leaves the lower enters the upper.
 ghost use mathlib.Core.Path.{_≡_};
 ghost use Rattle.stage.specs.Meaning.{Homes, meaning-of, length-answer, content-answer, home-answer};
-ghost use Rattle.stage.specs.Piled.{piled, piled-markers, Enters};
+ghost use Rattle.stage.specs.Piled.{piled, piled-markers, moved-answer, Enters};
 ghost use Rattle.stage.proofs.Homes.{piled-homes};
 use refusal::Refusal;
 use stage::Content;
+use stage::MarkedStage;
+use stage::Marker;
 use stage::Stage;
 
 // What leaves the lower stage enters the upper one.
@@ -40,5 +42,40 @@ pub impl<L: Stage, U: Stage> Stage for Pile<L, U> as PileStage {
         let middle = self.lower.length(n)?;
         self.upper.length(middle)?;
         self.upper.home(middle, self.lower.home(n, element)?)
+    }
+}
+
+// A marker among the elements that enter a stage, as it leaves: at its home, inverted where the stage inverts.
+fn moved_up<S: Stage>(stage: &S, n: usize, marker: Marker) -> Result<Marker, Refusal>
+    ensures { λ r. ⌜ r ≡ moved-answer (meaning-of (S·Stage .takes (now (stage .entry))) (S·Stage .size (now (stage .entry))) (S·Stage .at (now (stage .entry)))) n marker ⌝ }
+{
+    let place = stage.home(n, marker.place)?;
+    let bit = match stage.content(n, place)? {
+        Content::Inverted(_) => !marker.bit,
+        _ => marker.bit,
+    };
+    Ok(Marker { place, bit })
+}
+
+pub impl<L: MarkedStage, U: MarkedStage> MarkedStage for Pile<L, U> as PileMarkedStage {
+    ghost markers = { λ s. piled-markers (meaning-of (L·Stage .takes (s .lower)) (L·Stage .size (s .lower)) (L·Stage .at (s .lower))) (meaning-of (U·Stage .takes (s .upper)) (U·Stage .size (s .upper)) (U·Stage .at (s .upper))) (L·MarkedStage .markers (s .lower)) (U·MarkedStage .markers (s .upper)) };
+
+    fn marker_count(&self, n: usize) -> Result<usize, Refusal> {
+        let middle = self.lower.length(n)?;
+        let above = self.upper.marker_count(middle)?;
+        let below = self.lower.marker_count(n)?;
+        Ok(above + below)
+    }
+
+    fn marker(&self, n: usize, index: usize) -> Result<Marker, Refusal> {
+        if index >= self.marker_count(n)? {
+            return Err(Refusal::NoSuchPlace);
+        }
+        let middle = self.lower.length(n)?;
+        let above = self.upper.marker_count(middle)?;
+        if index < above {
+            return self.upper.marker(middle, index);
+        }
+        moved_up(&self.upper, middle, self.lower.marker(n, index - above)?)
     }
 }

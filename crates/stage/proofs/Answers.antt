@@ -17,19 +17,19 @@ use Rattle.stage.specs.Piled.{over, piled}
 use Rattle.stage.proofs.Homes.{parts-take, home-is, home-holds, stands-above, piled-homes}
 
 -- a check that lets an answer through: its condition does not hold
-passed : {A : Type 0} (b : Bool) (e : Refusal) (rest : Result A Refusal) (x : A) → Ok x ≡ refused-when b e rest → (b ≡ false) × (Ok x ≡ rest)
+pub passed : {A : Type 0} (b : Bool) (e : Refusal) (rest : Result A Refusal) (x : A) → Ok x ≡ refused-when b e rest → (b ≡ false) × (Ok x ≡ rest)
 passed true e rest x q = let z : _≡_ {A = ℕ} 0 1 = cc in absurd (omega arith)
 passed false e rest x q = (refl, q)
 
-taken : (b : Bool) → not b ≡ false → T b
+pub taken : (b : Bool) → not b ≡ false → T b
 taken true q = tt
 taken false q = let z : _≡_ {A = ℕ} 0 1 = cc in absurd (omega arith)
 
-is-true : (b : Bool) → T b → b ≡ true
+pub is-true : (b : Bool) → T b → b ≡ true
 is-true true t = refl
 is-true false t = absurd t
 
-same-ok : {A : Type 0} (x y : A) → _≡_ {A = Result A Refusal} (Ok x) (Ok y) → x ≡ y
+pub same-ok : {A : Type 0} (x y : A) → _≡_ {A = Result A Refusal} (Ok x) (Ok y) → x ≡ y
 same-ok x y q = cc
 
 -- an answered length: n is taken, and it is the length
@@ -122,3 +122,12 @@ home-through l u hl hu n i k s j a b e =
     ap (λ m. home-answer u m j) (x .1) ∙ ap (home-answer u (l .size n)) (z .2)
     ∙ home-there u (l .size n) (home-of l n i) up (low .0) ∙ ap Ok (sym (home-piled l u hl hu n i t (z .1)))
     ∙ sym (home-there (piled l u) n i t (z .1))
+
+-- the home of an element is a place whose content is answered
+pub home-not-refused : (m : Meaning) → Homes m → (n i p : ℕ) (e : Refusal) → Ok p ≡ home-answer m n i → Err e ≡ content-answer m n p → ⊥
+home-not-refused m hm n i p e a b =
+    let w = home-told m n i p a in
+    let s = home-holds m hm n i (w .0) (w .1) in
+    let ok = content-there m n p (w .0) (subst (λ q. q < m .size n) (sym (w .2)) (s .0)) in
+    let z : _≡_ {A = ℕ} 0 1 = cc in
+    omega arith

@@ -4,8 +4,13 @@ use mathlib.Core.Bool.{Bool, not, _&&_}
 use mathlib.Core.List.{List, map, _++_}
 use mathlib.Core.Path.{_≡_}
 use Prim.Native.Nat.{ℕ}
-use lib.Dec.{T}
+use lib.Dec.{T, leb}
 use lib.ListN.{length}
+use Rattle.std.specs.declared.result.Result.{Result}
+use Rattle.std.specs.declared.result.Result.the-variants.{Ok}
+use Rattle.refusal.specs.declared.Refusal.{Refusal}
+use Rattle.refusal.specs.declared.Refusal.the-variants.{NoSuchPlace, CountNotTaken}
+use Rattle.refusal.specs.Answer.{refused-when}
 use Rattle.stage.specs.declared.Content.{Content}
 use Rattle.stage.specs.declared.Content.the-variants.{Carried, Inverted, Fixed, Mute}
 use Rattle.stage.specs.declared.Element.{Element}
@@ -41,6 +46,11 @@ moved upper n m = record
   { place = home-of upper n (m .place)
   ; bit = bit-over (m .bit) (upper .at n (home-of upper n (m .place)))
   }
+
+-- what asking a stage for a marker of the elements that enter it, as it leaves, answers
+abbrev pub moved-answer : Meaning → ℕ → Marker → Result Marker Refusal
+moved-answer upper n m =
+    refused-when (not (upper .takes n)) CountNotTaken (refused-when (leb n (m .place)) NoSuchPlace (Ok (moved upper n m)))
 
 -- the markers of the pile: the upper's first, then the lower's
 abbrev pub piled-markers : Meaning → Meaning → (ℕ → List Marker) → (ℕ → List Marker) → ℕ → List Marker
