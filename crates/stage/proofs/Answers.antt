@@ -131,3 +131,7 @@ home-not-refused m hm n i p e a b =
     let ok = content-there m n p (w .0) (subst (λ q. q < m .size n) (sym (w .2)) (s .0)) in
     let z : _≡_ {A = ℕ} 0 1 = cc in
     omega arith
+
+-- the place where an element stands is what a stage answers as its home
+pub home-answered : (m : Meaning) → Homes m → (n i p : ℕ) → T (m .takes n) → i < n → Stands m n i p → Ok p ≡ home-answer m n i
+home-answered m hm n i p t h s = ap Ok (sym (home-is m hm n i p t s)) ∙ sym (home-there m n i t h)
