@@ -16,6 +16,16 @@ pub struct Pile<L, U> {
     pub upper: U,
 }
 
+impl<L: Stage, U: Stage> Pile<L, U> {
+    // The pile of two stages. What leaves it is what leaves the upper when what leaves the lower enters that.
+    pub fn new(lower: L, upper: U) -> Pile<L, U>
+        ensures value { λ r. ⌜ (r .lower ≡ lower) × (r .upper ≡ upper) ⌝ }
+        ensures enters { λ _. ⌜ Enters (meaning-of (L·Stage .takes lower) (L·Stage .size lower) (L·Stage .at lower)) (meaning-of (U·Stage .takes upper) (U·Stage .size upper) (U·Stage .at upper)) ⌝ }
+    {
+        Pile { lower, upper }
+    }
+}
+
 pub impl<L: Stage, U: Stage> Stage for Pile<L, U> as PileStage {
     ghost takes = { λ s. piled (meaning-of (L·Stage .takes (s .lower)) (L·Stage .size (s .lower)) (L·Stage .at (s .lower))) (meaning-of (U·Stage .takes (s .upper)) (U·Stage .size (s .upper)) (U·Stage .at (s .upper))) .takes };
 
