@@ -75,29 +75,29 @@ module _ (l u : Meaning) (hl : Homes l) (hu : Homes u) where
   -- where element i stands in the pile, the upper has the lower's place where i stands
   pub stands-below : (n i p : ℕ) → T (piled l u .takes n) → Stands (piled l u) n i p → (j : ℕ) × (Stands u (l .size n) j p × Stands l n i j)
   stands-below n i p t s =
-    let k = over-carries (l .at n) (u .at (l .size n) p) i (s .1) in
-    let up : Stands u (l .size n) (k .0) p = (s .0, k .1 .0) in
-    let inside = hu .incoming (l .size n) (k .0) p (parts-take l u n t .1) up in
-    (k .0, (up, (inside, k .1 .1)))
+      let k = over-carries (l .at n) (u .at (l .size n) p) i (s .1) in
+      let up : Stands u (l .size n) (k .0) p = (s .0, k .1 .0) in
+      let inside = hu .incoming (l .size n) (k .0) p (parts-take l u n t .1) up in
+      (k .0, (up, (inside, k .1 .1)))
 
   pub stands-above : (n i j p : ℕ) → Stands u (l .size n) j p → Stands l n i j → Stands (piled l u) n i p
   stands-above n i j p a b = (a .0, carries-over (l .at n) (u .at (l .size n) p) i j (a .1) (b .1))
 
   -- the home of an element in a pile is the upper's home of the lower's home
   pub piled-homes : Homes (piled l u)
-  piled-homes = record
-    { least = λ n t. let p = parts-take l u n t in omega (arith, hl .least n (p .0), hu .least (l .size n) (p .1))
-    ; most = λ n t. hu .most (l .size n) (parts-take l u n t .1)
-    ; incoming = λ n i p t s. let k = stands-below n i p t s in hl .incoming n i (k .0) (parts-take l u n t .0) (k .1 .1)
-    ; somewhere = λ n i t h.
+  piled-homes = record {
+    least = λ n t. let p = parts-take l u n t in omega (arith, hl .least n (p .0), hu .least (l .size n) (p .1));
+    most = λ n t. hu .most (l .size n) (parts-take l u n t .1);
+    incoming = λ n i p t s. let k = stands-below n i p t s in hl .incoming n i (k .0) (parts-take l u n t .0) (k .1 .1);
+    somewhere = λ n i t h.
         let p = parts-take l u n t in
         let j = hl .somewhere n i (p .0) h in
         let q = hu .somewhere (l .size n) (j .0) (p .1) (j .1 .0) in
-        (q .0, stands-above n i (j .0) (q .0) (q .1) (j .1))
-    ; once = λ n i p q t a b.
+        (q .0, stands-above n i (j .0) (q .0) (q .1) (j .1));
+    once = λ n i p q t a b.
         let e = parts-take l u n t in
         let j = stands-below n i p t a in
         let k = stands-below n i q t b in
         let same : k .0 ≡ j .0 = hl .once n i (k .0) (j .0) (e .0) (k .1 .1) (j .1 .1) in
-        hu .once (l .size n) (j .0) p q (e .1) (j .1 .0) (subst (λ x. Stands u (l .size n) x q) same (k .1 .0))
-    }
+        hu .once (l .size n) (j .0) p q (e .1) (j .1 .0) (subst (λ x. Stands u (l .size n) x q) same (k .1 .0));
+  }

@@ -27,11 +27,11 @@ over lower Mute = Mute
 
 -- the pile takes n if the lower takes n and the upper takes the lower's length
 abbrev pub piled : Meaning → Meaning → Meaning
-piled lower upper = record
-  { takes = λ n. lower .takes n && upper .takes (lower .size n)
-  ; size = λ n. upper .size (lower .size n)
-  ; at = λ n p. over (lower .at n) (upper .at (lower .size n) p)
-  }
+piled lower upper = record {
+  takes = λ n. lower .takes n && upper .takes (lower .size n);
+  size = λ n. upper .size (lower .size n);
+  at = λ n p. over (lower .at n) (upper .at (lower .size n) p);
+}
 
 -- a bit as it stands where a stage has this content: inverted where the stage inverts
 abbrev pub bit-over : Bool → Content → Bool
@@ -42,10 +42,10 @@ bit-over b Mute = b
 
 -- a marker of the lower in the pile: at the new home of its place, inverted where the upper inverts
 abbrev pub moved : Meaning → ℕ → Marker → Marker
-moved upper n m = record
-  { place = home-of upper n (m .place)
-  ; bit = bit-over (m .bit) (upper .at n (home-of upper n (m .place)))
-  }
+moved upper n m = record {
+  place = home-of upper n (m .place);
+  bit = bit-over (m .bit) (upper .at n (home-of upper n (m .place)));
+}
 
 -- what asking a stage for a marker of the elements that enter it, as it leaves, answers
 abbrev pub moved-answer : Meaning → ℕ → Marker → Result Marker Refusal

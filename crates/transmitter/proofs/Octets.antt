@@ -48,8 +48,8 @@ octets-of-burst m text =
     let long : length (burst m text) ≡ burst-length m text = length-leaving m (entering text) ∙ ap (m .size) (length-entering text) in
     fill-by-all (octet-at m text) (map octet-of (burst m text)) (burst-length m text) 0 (length-map (burst m text) octet-of ∙ long)
     (λ k h. getD-map octet-of (burst m text) k Mute 0 (subst (λ z. k < z) (sym long) h)
-      ∙ ap octet-of (getD-leaving m (entering text) k (subst (λ z. k < z) (ap (m .size) (sym (length-entering text))) h)
-        ∙ ap (λ z. evaluated (entering text) (m .at z k)) (length-entering text)))
+    ∙ ap octet-of (getD-leaving m (entering text) k (subst (λ z. k < z) (ap (m .size) (sym (length-entering text))) h)
+    ∙ ap (λ z. evaluated (entering text) (m .at z k)) (length-entering text)))
 
 -- the coded bit of an incoming element is answered
 bit-there : (text : List ℕ) (n i : ℕ) → Ok n ≡ text-checked (length text) (Ok (coded-count (length text))) → i < coded-count (length text) → coded-bit-answer text i ≡ Ok (coded (bit text) i)
@@ -75,19 +75,19 @@ module _ (m : Meaning) (homes : Homes m) (text : List ℕ) (n : ℕ) (counted : 
 
   pub place-there : (p : ℕ) (c : Content) → Ok c ≡ content-answer m n p → element-answer text c ≡ Ok (evaluated (entering text) (m .at (coded-count (length text)) p))
   place-there p c e =
-    let w = content-told m n p c e in
-    let inside : (i : ℕ) → T (carries c i) → i < coded-count (length text) =
+      let w = content-told m n p c e in
+      let inside : (i : ℕ) → T (carries c i) → i < coded-count (length text) =
       λ i t. subst (λ z. i < z) n-is (homes .incoming n i p (w .0) (w .1, subst (λ z. T (carries z i)) (w .2) t)) in
-    element-there text n c counted inside ∙ ap (λ z. Ok (evaluated (entering text) z)) (w .2 ∙ ap (λ z. m .at z p) n-is)
+      element-there text n c counted inside ∙ ap (λ z. Ok (evaluated (entering text) z)) (w .2 ∙ ap (λ z. m .at z p) n-is)
 
   pub place-octet : (p : ℕ) (c : Content) (e : Element) (x : ℕ) → Ok c ≡ content-answer m n p → Ok e ≡ element-answer text c → x ≡ octet-of e → x ≡ octet-at m text p
   place-octet p c e x has is octet = octet ∙ ap octet-of (same-ok e _ (is ∙ place-there p c has))
 
   pub place-not-refused : (p : ℕ) (c : Content) (e : Refusal) → Ok c ≡ content-answer m n p → Err e ≡ element-answer text c → ⊥
   place-not-refused p c e has refused =
-    let ok = place-there p c has in
-    let z : _≡_ {A = ℕ} 0 1 = cc in
-    omega arith
+      let ok = place-there p c has in
+      let z : _≡_ {A = ℕ} 0 1 = cc in
+      omega arith
 
   module _ (len : ℕ) (long : Ok len ≡ length-answer m n) where
     len-is : len ≡ burst-length m text
@@ -95,17 +95,17 @@ module _ (m : Meaning) (homes : Homes m) (text : List ℕ) (n : ℕ) (counted : 
 
     pub write-there : (places : ℕ) → len ≤ places → Ok len ≡ write-answer m text places
     write-there places room =
-      let k = coded-count (length text) in
-      let room-test = refused-when (ltb places (burst-length m text)) MemoryTooShort (Ok (burst-length m text)) in
-      let takes-test = refused-when (not (m .takes k)) CountNotTaken room-test in
-      let takes = subst (λ z. T (m .takes z)) n-is (length-told m n len long .0) in
-      ap Ok len-is
-      ∙ sym (text-past (length text) k n takes-test counted .0 ∙ ap (λ b. refused-when (not b) CountNotTaken room-test) (is-true (m .takes k) takes)
+        let k = coded-count (length text) in
+        let room-test = refused-when (ltb places (burst-length m text)) MemoryTooShort (Ok (burst-length m text)) in
+        let takes-test = refused-when (not (m .takes k)) CountNotTaken room-test in
+        let takes = subst (λ z. T (m .takes z)) n-is (length-told m n len long .0) in
+        ap Ok len-is
+        ∙ sym (text-past (length text) k n takes-test counted .0 ∙ ap (λ b. refused-when (not b) CountNotTaken room-test) (is-true (m .takes k) takes)
         ∙ past (ltb places (burst-length m text)) MemoryTooShort (Ok (burst-length m text)) (le-ltb places (burst-length m text) (subst (λ z. z ≤ places) len-is room)))
 
     pub all-filled : (out : List ℕ) → filled (octet-at m text) len out ≡ map octet-of (burst m text) ++ drop (length (map octet-of (burst m text))) out
     all-filled out =
-      let whole = octets-of-burst m text in
-      let many : length (map octet-of (burst m text)) ≡ burst-length m text = ap length whole ∙ length-map-counting (octet-at m text) 0 (burst-length m text) in
-      ap (λ z. filled (octet-at m text) z out) len-is ∙ ap (λ l. l ++ drop (burst-length m text) out) (sym whole)
-      ∙ ap (λ z. map octet-of (burst m text) ++ drop z out) (sym many)
+        let whole = octets-of-burst m text in
+        let many : length (map octet-of (burst m text)) ≡ burst-length m text = ap length whole ∙ length-map-counting (octet-at m text) 0 (burst-length m text) in
+        ap (λ z. filled (octet-at m text) z out) len-is ∙ ap (λ l. l ++ drop (burst-length m text) out) (sym whole)
+        ∙ ap (λ z. map octet-of (burst m text) ++ drop z out) (sym many)

@@ -22,7 +22,11 @@ pub struct Wire;
 fn check_count(n: usize) -> Result<(), Refusal>
     ensures { λ r. ⌜ r ≡ refused-when (not (wire .takes n)) CountNotTaken (Ok tt) ⌝ }
 {
-    if n > MOST_ELEMENTS { Err(Refusal::CountNotTaken) } else { Ok(()) }
+    if n > MOST_ELEMENTS {
+        Err(Refusal::CountNotTaken)
+    } else {
+        Ok(())
+    }
 }
 
 pub impl Stage for Wire as WireStage {
@@ -41,12 +45,20 @@ pub impl Stage for Wire as WireStage {
 
     fn content(&self, n: usize, place: usize) -> Result<Content, Refusal> {
         check_count(n)?;
-        if place < n { Ok(Content::Carried(place)) } else { Err(Refusal::NoSuchPlace) }
+        if place < n {
+            Ok(Content::Carried(place))
+        } else {
+            Err(Refusal::NoSuchPlace)
+        }
     }
 
     fn home(&self, n: usize, element: usize) -> Result<usize, Refusal> {
         check_count(n)?;
-        if element < n { Ok(element) } else { Err(Refusal::NoSuchPlace) }
+        if element < n {
+            Ok(element)
+        } else {
+            Err(Refusal::NoSuchPlace)
+        }
     }
 }
 
@@ -59,7 +71,7 @@ pub impl MarkedStage for Wire as WireMarkedStage {
     }
 
     fn marker(&self, n: usize, _index: usize) -> Result<Marker, Refusal> {
-        check_count(n)?;
+        self.marker_count(n)?;
         Err(Refusal::NoSuchPlace)
     }
 }

@@ -24,8 +24,8 @@ loop-place-again g c =
     ap (λ l. set l p x) (c .loop-place .inv)
     ∙ filled-more (octet-at m (c .args .text .now)) p (p + 1) (c .args .out .now) x refl within
     (place-octet m (g .S·Stage .homes s) (c .args .text .now) (c .in-Continue-n .n) (c .in-Continue-n .ensures tt) p
-      (c .in-Continue-content .field-0) (c .in-Continue-element .field-0) x (c .in-Continue-content .ensures tt)
-      (c .in-Continue-element .ensures tt) (c .octet .ensures))
+    (c .in-Continue-content .field-0) (c .in-Continue-element .field-0) x (c .in-Continue-content .ensures tt)
+    (c .in-Continue-element .ensures tt) (c .octet .ensures))
 
 pub returns : need.returns
 returns g c =
@@ -35,9 +35,9 @@ returns g c =
     let out = c .args .out .now in
     let len = c .in-Continue-length .length in
     let end : c .loop-place .place ≡ len = omega arith in
-    record
-    { answer = write-there m (g .S·Stage .homes s) text (c .in-Continue-n .n) (c .in-Continue-n .ensures tt) len
-      (c .in-Continue-length .ensures tt) (length out) (c .if-out-length .left)
-    ; memory = c .loop-place .inv ∙ ap (λ z. filled (octet-at m text) z out) end
-      ∙ all-filled m (g .S·Stage .homes s) text (c .in-Continue-n .n) (c .in-Continue-n .ensures tt) len (c .in-Continue-length .ensures tt) out
+    record {
+      answer = write-there m (g .S·Stage .homes s) text (c .in-Continue-n .n) (c .in-Continue-n .ensures tt) len
+          (c .in-Continue-length .ensures tt) (length out) (c .if-out-length .left);
+      memory = c .loop-place .inv ∙ ap (λ z. filled (octet-at m text) z out) end
+          ∙ all-filled m (g .S·Stage .homes s) text (c .in-Continue-n .n) (c .in-Continue-n .ensures tt) len (c .in-Continue-length .ensures tt) out;
     }

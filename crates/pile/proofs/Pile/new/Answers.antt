@@ -7,8 +7,8 @@ pub returns : need.returns
 returns g c =
     let lower = c .args .lower in
     let upper = c .args .upper in
-    record
-    { value = (refl, refl)
-    ; enters = enters (meaning-of (g .L·Stage .takes lower) (g .L·Stage .size lower) (g .L·Stage .at lower))
-      (meaning-of (g .U·Stage .takes upper) (g .U·Stage .size upper) (g .U·Stage .at upper)) (g .U·Stage .homes upper)
+    record {
+      value = (refl, refl);
+      enters = enters (meaning-of (g .L·Stage .takes lower) (g .L·Stage .size lower) (g .L·Stage .at lower))
+          (meaning-of (g .U·Stage .takes upper) (g .U·Stage .size upper) (g .U·Stage .at upper)) (g .U·Stage .homes upper);
     }
