@@ -1,2 +1,4 @@
+pub mod Elements
 pub mod Marked
 pub mod Meaning
+pub mod Piled

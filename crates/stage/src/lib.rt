@@ -6,6 +6,7 @@ ghost use Rattle.stage.specs.declared.Content.{Content as ContentOf};
 ghost use Rattle.stage.specs.Meaning.{Homes, meaning-of, length-answer, content-answer, home-answer};
 ghost use mathlib.Core.List.{List};
 ghost use Rattle.stage.specs.declared.Marker.{Marker as MarkerOf};
+ghost use Rattle.stage.specs.Elements.{octet-of, element-of, inverse};
 ghost use Rattle.stage.specs.Marked.{Apart, Told, count-answer, marker-answer};
 use refusal::Refusal;
 
@@ -20,6 +21,48 @@ pub enum Content {
     Fixed(bool),
     // silence
     Mute,
+}
+
+impl Content {
+    // The content with all that can stand there inverted.
+    pub fn inverted(self) -> Content
+        ensures { λ r. ⌜ r ≡ inverse self ⌝ }
+    {
+        match self {
+            Content::Carried(i) => Content::Inverted(i),
+            Content::Inverted(i) => Content::Carried(i),
+            Content::Fixed(bit) => Content::Fixed(!bit),
+            Content::Mute => Content::Mute,
+        }
+    }
+}
+
+// An element on its way to the tones: a bit, or silence.
+#[derive(Clone, Copy, PartialEq, Eq, Debug)]
+pub enum Element {
+    Zero,
+    One,
+    Mute,
+}
+
+impl Element {
+    // The element of a bit.
+    pub fn of_bit(bit: bool) -> Element
+        ensures { λ r. ⌜ r ≡ element-of bit ⌝ }
+    {
+        if bit { Element::One } else { Element::Zero }
+    }
+
+    // The octet that stands for the element in memory.
+    pub fn octet(self) -> u8
+        ensures { λ r. ⌜ r ≡ octet-of self ⌝ }
+    {
+        match self {
+            Element::Zero => 0,
+            Element::One => 1,
+            Element::Mute => 2,
+        }
+    }
 }
 
 // A stage between the coder and the tones. Its meaning is a fixed rule, and its answers are that meaning.
@@ -61,10 +104,11 @@ pub trait MarkedStage: Stage {
     // its markers for each count of incoming elements, in order
     ghost markers: { Self → ℕ → List MarkerOf };
 
-    // How many markers there are when n elements enter. They stand at different places.
+    // How many markers there are when n elements enter. They stand at different places, each of which holds its bit.
     fn marker_count(&self, n: usize) -> Result<usize, Refusal>
         ensures count { λ r. ⌜ r ≡ count-answer (Self·Stage .takes (now (self .entry))) (markers (now (self .entry))) n ⌝ }
-        ensures apart { λ _. ⌜ Apart (Self·Stage .takes (now (self .entry))) (markers (now (self .entry))) n ⌝ };
+        ensures apart { λ _. ⌜ Apart (Self·Stage .takes (now (self .entry))) (markers (now (self .entry))) n ⌝ }
+        ensures fixed { λ _. ⌜ Told (meaning-of (Self·Stage .takes (now (self .entry))) (Self·Stage .size (now (self .entry))) (Self·Stage .at (now (self .entry)))) (markers (now (self .entry))) n ⌝ };
 
     // The marker with an index when n elements enter. Its place holds its bit.
     fn marker(&self, n: usize, index: usize) -> Result<Marker, Refusal>

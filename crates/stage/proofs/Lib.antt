@@ -1,0 +1,4 @@
+pub mod Answers
+pub mod Homes
+pub mod Leaving
+pub mod Markers
