@@ -1,0 +1,4 @@
+pub mod Inserter
+pub mod Interleaver
+pub mod Lead
+pub mod Places
