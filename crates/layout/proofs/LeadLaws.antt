@@ -12,10 +12,10 @@ use Rattle.stage.specs.declared.Content.{Content}
 use Rattle.stage.specs.declared.Content.the-variants.{Carried, Fixed}
 use Rattle.stage.specs.declared.Marker.{Marker}
 use Rattle.stage.specs.Meaning.{Homes, carries, home-of}
-use Rattle.stage.specs.Marked.{Apart, Told}
+use Rattle.stage.specs.Marked.{Apart, Told, no-marker}
 use Rattle.layout.specs.Places.{taken, how-many}
 use Rattle.layout.specs.Lead.{in-lead, lead-bit, lead-size, lead-at, lead-meaning, lead-markers}
-use Rattle.layout.proofs.Places.{true-T, how-many-past, length-markers, marker-is}
+use Rattle.layout.proofs.Places.{true-T, how-many-past, how-many-all, length-markers, marker-is}
 use Rattle.layout.proofs.Fitting.{Placed, homes-fit, home-is, markers-told, markers-differ}
 
 lead-in : (n p : ℕ) → in-lead p ≡ true → lead-at n p ≡ Fixed (lead-bit p)
@@ -57,3 +57,7 @@ lead-told n = markers-told lead-meaning in-lead lead-bit n (lead-in n)
 
 pub lead-apart : (n : ℕ) → Apart taken lead-markers n
 lead-apart n = markers-differ taken lead-size in-lead lead-bit n
+
+pub lead-marker : (n k : ℕ) → k < 8 → getD (lead-markers n) k no-marker ≡ record { place = k; bit = lead-bit k }
+lead-marker n k h =
+    marker-is in-lead lead-bit (n + 8) k k no-marker (omega arith) (lt-ltb k 8 h) (how-many-all in-lead 8 (λ q l. lt-ltb q 8 l) k (omega arith))

@@ -61,6 +61,11 @@ pub how-many-past : (test : ℕ → Bool) (p k : ℕ) → ((q : ℕ) → p ≤ q
 how-many-past test p zero none = rw zero-add refl
 how-many-past test p (suc k) none = rw suc-add (how-many-no test (k + p) (none (k + p) (omega arith)) ∙ how-many-past test p k none)
 
+-- where every place below a bound passes it is the place
+pub how-many-all : (test : ℕ → Bool) (n : ℕ) → ((q : ℕ) → q < n → test q ≡ true) → (p : ℕ) → p ≤ n → how-many test p ≡ p
+how-many-all test n all zero h = refl
+how-many-all test n all (suc p) h = how-many-yes test p (all p h) ∙ ap suc (how-many-all test n all p (omega arith))
+
 -- counting to one more, and what of it is kept
 counting-push : (a n : ℕ) → counting a (suc n) ≡ counting a n ++ (a + n) ∷ []
 counting-push a zero = ap (λ m. m ∷ []) (sym (add-zero a))
