@@ -1,3 +1,5 @@
 pub mod Fitting
+pub mod InterleaverLaws
 pub mod LeadLaws
 pub mod Places
+pub mod Tables

@@ -79,7 +79,7 @@ kept-append test (x ∷ xs) y =
     [ true ↦ ap (λ l. x ∷ l) (kept-append test xs y) | false ↦ kept-append test xs y ]
 
 -- the places below n that pass
-abbrev passed : (ℕ → Bool) → ℕ → List ℕ
+abbrev pub passed : (ℕ → Bool) → ℕ → List ℕ
 passed test n = kept-by test (counting 0 n)
 
 passed-yes : (test : ℕ → Bool) (n : ℕ) → test n ≡ true → passed test (suc n) ≡ passed test n ++ n ∷ []

@@ -7,8 +7,12 @@ ghost use Rattle.refusal.specs.Answer.{refused-when};
 ghost use Rattle.layout.specs.Places.{taken};
 use refusal::Refusal;
 
+mod interleaver;
 mod lead;
 
+pub use interleaver::Interleaver;
+pub use interleaver::InterleaverMarked;
+pub use interleaver::InterleaverStage;
 pub use lead::Lead;
 pub use lead::LeadMarked;
 pub use lead::LeadStage;
