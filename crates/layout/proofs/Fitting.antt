@@ -27,7 +27,7 @@ homes-fit m place-of f =
       most = f .most;
       incoming = λ n i p t s. f .only n i p s .0;
       somewhere = λ n i t h. (place-of i, f .there n i h);
-      once = λ n i p q t s u. f .only n i p s .1 ∙ sym (f .only n i q u .1)
+      once = λ n i p q t s u. f .only n i p s .1 ∙ sym (f .only n i q u .1);
     }
 
 pub home-is : (m : Meaning) (place-of : ℕ → ℕ) → Placed m place-of → (n i : ℕ) → i < n → home-of m n i ≡ place-of i

@@ -15,7 +15,7 @@ use Rattle.stage.specs.declared.Content.{Content}
 use Rattle.stage.specs.declared.Content.the-variants.{Carried, Fixed, Mute}
 use Rattle.stage.specs.Meaning.{Homes, Stands, carries, home-of, first-place}
 use Rattle.stage.specs.Marked.{Apart, Told, no-marker}
-use Rattle.layout.specs.Places.{taken, is-one-of, how-many}
+use Rattle.layout.specs.Places.{taken, is-one-of, how-many, terms-to}
 use Rattle.layout.specs.Inserter.{mutes, is-mute, is-resync, is-carrier, resynchronisation, resync-bit, inserter-at, inserter-size, inserter-meaning, inserter-markers}
 use Rattle.layout.proofs.Places.{true-T, T-true, first-place-is, how-many-yes, how-many-no, how-many-most, how-many-grows, how-many-below, length-markers, marker-is}
 use Rattle.layout.proofs.Fitting.{Placed, homes-fit, home-is, markers-told, markers-differ}
@@ -44,8 +44,8 @@ module _ (test : ℕ → Bool) (f : ℕ → ℕ) (total : ℕ) (again : (p : ℕ
   lifted : (p : ℕ) → how-many test p ≡ total * (p / 384) + f (p % 384) → how-many test (suc p) ≡ total * (p / 384) + cond (test (p % 384)) (suc (f (p % 384))) (f (p % 384))
   lifted p e =
       elim (cases-bool (test p)) [
-        inl t ↦ rw (sym (again p) ∙ t) (omega (arith, how-many-yes test p t, e))
-      | inr t ↦ rw (sym (again p) ∙ t) (omega (arith, how-many-no test p t, e))
+        | inl t ↦ rw (sym (again p) ∙ t) (omega (arith, how-many-yes test p t, e))
+        | inr t ↦ rw (sym (again p) ∙ t) (omega (arith, how-many-no test p t, e))
       ]
 
   periodic : (p : ℕ) → how-many test p ≡ total * (p / 384) + f (p % 384)
@@ -53,16 +53,13 @@ module _ (test : ℕ → Bool) (f : ℕ → ℕ) (total : ℕ) (again : (p : ℕ
   periodic (suc p) =
       lifted p (periodic p) ∙ ap (λ x. total * (p / 384) + x) (step (p % 384) (omega arith))
       ∙ elim (cases-lt (p % 384) 383) [
-        inl h ↦ rw (lt-ltb (p % 384) 383 h, within p h .0, within p h .1)
-      | inr h ↦ rw (le-ltb (p % 384) 383 h, across p h .0, across p h .1) (omega (arith, start, mul-suc total (p / 384)))
+        | inl h ↦ rw (lt-ltb (p % 384) 383 h, within p h .0, within p h .1)
+        | inr h ↦ rw (le-ltb (p % 384) 383 h, across p h .0, across p h .1) (omega (arith, start, mul-suc total (p / 384)))
       ]
 
--- the mutes of a period as four rows of eight, 15 apart: how many of so many numbers from the first on, a step apart, are at most x
-abbrev pub so-far : ℕ → ℕ → ℕ → ℕ → ℕ
-so-far x first apart most = cond (ltb x first) 0 (min most ((x - first) / apart + 1))
-
+-- the mutes before place q of a period: four rows of eight, 15 apart
 abbrev pub mutes-before : ℕ → ℕ
-mutes-before q = so-far q 8 15 8 + so-far q 16 15 8 + so-far q 24 15 8 + so-far q 32 15 8
+mutes-before q = terms-to q 8 15 8 + terms-to q 16 15 8 + terms-to q 24 15 8 + terms-to q 32 15 8
 
 -- how many carriers of the period stand before its place q
 unfoldable pub carriers : ℕ → ℕ
@@ -74,7 +71,7 @@ resyncs q = q - 352
 -- the mutes before element e of the period: in the count of elements they stand before 7 and 14, twice before
 -- 20, 31, .. and 26, 37, .., and before 98 and 105
 abbrev pub mutes-before-element : ℕ → ℕ
-mutes-before-element e = so-far e 7 7 2 + 2 * so-far e 20 11 7 + 2 * so-far e 26 11 7 + so-far e 98 7 2
+mutes-before-element e = terms-to e 7 7 2 + 2 * terms-to e 20 11 7 + 2 * terms-to e 26 11 7 + terms-to e 98 7 2
 
 -- the place in the period of its element e
 unfoldable pub spot : ℕ → ℕ
@@ -132,9 +129,9 @@ pub place-carries : (i : ℕ) → (is-carrier (place-of i) ≡ true) × (how-man
 unfolding place-of
 place-carries i =
     let (carrier, order, low) = element-spot (i % 320) (omega arith) in
-    let (period, rest) = in-period (i / 320) (spot (i % 320)) (omega arith) in
-    ( carrier-again (place-of i) ∙ ap is-carrier rest ∙ carrier
-    , carriers-before (place-of i) ∙ rw (period, rest, order) (omega arith)
+    let (period, rest) = in-period (i / 320) (spot (i % 320)) (omega arith) in (
+      carrier-again (place-of i) ∙ ap is-carrier rest ∙ carrier,
+      carriers-before (place-of i) ∙ rw (period, rest, order) (omega arith),
     )
 
 pub carrier-place : (p : ℕ) → is-carrier p ≡ true → p ≡ place-of (how-many is-carrier p)
@@ -156,9 +153,9 @@ place-high i = omega arith
 ordered : (i j : ℕ) → i ≤ j → place-of i ≤ place-of j
 ordered i j h =
     elim (cases-lt (place-of j) (place-of i)) [
-      inl less ↦
-        absurd (omega (arith, how-many-below is-carrier (place-of i) (place-of j) less (place-carries j .0), place-carries i .1, place-carries j .1))
-    | inr fine ↦ fine
+      | inl less ↦
+          absurd (omega (arith, how-many-below is-carrier (place-of i) (place-of j) less (place-carries j .0), place-carries i .1, place-carries j .1))
+      | inr fine ↦ fine
     ]
 
 -- a place carries an element where it is a carrier before which so many stand
@@ -175,12 +172,12 @@ there n i =
 carried-back : (n i p : ℕ) → T (carries (inserter-at n p) i) → (is-carrier p ≡ true) × (how-many is-carrier p ≡ i)
 carried-back n i p t =
     elim (cases-bool (is-mute p)) [
-      inl m ↦ absurd (rw m at t)
-    | inr m ↦
-      elim (cases-bool (is-resync p)) [
-        inl r ↦ absurd (rw (m, r) at t)
-      | inr r ↦ (rw (m, r), eqb→eq (how-many is-carrier p) i (rw (m, r) at t))
-      ]
+      | inl m ↦ absurd (rw m at t)
+      | inr m ↦
+          elim (cases-bool (is-resync p)) [
+            | inl r ↦ absurd (rw (m, r) at t)
+            | inr r ↦ (rw (m, r), eqb→eq (how-many is-carrier p) i (rw (m, r) at t))
+          ]
     ]
 
 at-home : (n i p : ℕ) → T (carries (inserter-at n p) i) → p ≡ place-of i
@@ -220,7 +217,7 @@ placed =
       least = λ n t. size-least n;
       most = size-bound;
       there = standing;
-      only = λ n i p s. (entering n i p s, at-home n i p (s .1))
+      only = λ n i p s. (entering n i p s, at-home n i p (s .1));
     }
 
 pub inserter-homes : Homes inserter-meaning
@@ -275,8 +272,8 @@ resync-in : (n p : ℕ) → is-resync p ≡ true → inserter-at n p ≡ Fixed (
 resync-in n p e =
     let late = leb-true 352 (p % 384) e in
     let sounds : is-mute p ≡ false =
-            mute-rule p
-            ∙ and-right (leb (7 + 15 * (7 - p % 384 % 8)) (p % 384)) (leb (p % 384) (31 + 15 * (7 - p % 384 % 8))) (lt-leb (p % 384) (31 + 15 * (7 - p % 384 % 8)) (omega arith)) in
+    mute-rule p
+    ∙ and-right (leb (7 + 15 * (7 - p % 384 % 8)) (p % 384)) (leb (p % 384) (31 + 15 * (7 - p % 384 % 8))) (lt-leb (p % 384) (31 + 15 * (7 - p % 384 % 8)) (omega arith)) in
     rw (sounds, e)
 
 resyncs-whole : (l : ℕ) → how-many is-resync (suc (place-of l)) ≡ 32 * (l / 320)

@@ -63,16 +63,16 @@ module _ (preamble : List ℕ) where
   only : (n i p : ℕ) → T (carries (interleaver-at preamble n p) i) → (i < n) × (p ≡ place-of i)
   only n i p t =
       elim (cases-bool (in-preamble p)) [
-        inl e ↦ absurd (subst (λ (c : Content). T (carries c i)) (held n p e) t)
-      | inr e ↦
-        elim (cases-bool (ltb (interleaved p) n)) [
-          inl l ↦
-            let h = ltb-true (interleaved p) n l in
-            let same = eqb→eq (interleaved p) i (subst T (carrying n p i e h) t) in
-            let late = ltb-false (p / 8) (2 * (p % 8)) e in
-            (rw (← same) h, place-back p late ∙ ap place-of same)
-        | inr l ↦ absurd (subst (λ (c : Content). T (carries c i)) (filled n p e (ltb-false (interleaved p) n l)) t)
-        ]
+        | inl e ↦ absurd (subst (λ (c : Content). T (carries c i)) (held n p e) t)
+        | inr e ↦
+            elim (cases-bool (ltb (interleaved p) n)) [
+              | inl l ↦
+                  let h = ltb-true (interleaved p) n l in
+                  let same = eqb→eq (interleaved p) i (subst T (carrying n p i e h) t) in
+                  let late = ltb-false (p / 8) (2 * (p % 8)) e in
+                  (rw (← same) h, place-back p late ∙ ap place-of same)
+              | inr l ↦ absurd (subst (λ (c : Content). T (carries c i)) (filled n p e (ltb-false (interleaved p) n l)) t)
+            ]
       ]
 
   placed : Placed (interleaver-meaning preamble) place-of
@@ -81,7 +81,7 @@ module _ (preamble : List ℕ) where
         least = λ n t. omega arith;
         most = λ n t. omega (arith, leb→le n 10000 t);
         there = λ n i h. (omega arith, there n i h);
-        only = λ n i p s. only n i p (s .1)
+        only = λ n i p s. only n i p (s .1);
       }
 
   pub interleaver-homes : Homes (interleaver-meaning preamble)

@@ -30,8 +30,8 @@ there n i = rw (lead-behind n (i + 8) (omega arith)) (true-T (eqb (i + 8 - 8) i)
 only : (n i p : ℕ) → T (carries (lead-at n p) i) → p ≡ i + 8
 only n i p t =
     elim (cases-lt p 8) [
-      inl h ↦ absurd (subst (λ (c : Content). T (carries c i)) (lead-in n p (lt-ltb p 8 h)) t)
-    | inr h ↦ omega (arith, eqb→eq (p - 8) i (subst (λ (c : Content). T (carries c i)) (lead-behind n p h) t))
+      | inl h ↦ absurd (subst (λ (c : Content). T (carries c i)) (lead-in n p (lt-ltb p 8 h)) t)
+      | inr h ↦ omega (arith, eqb→eq (p - 8) i (subst (λ (c : Content). T (carries c i)) (lead-behind n p h) t))
     ]
 
 lead-placed : Placed lead-meaning (λ i. i + 8)
@@ -40,7 +40,7 @@ lead-placed =
       least = λ n t. omega arith;
       most = λ n t. omega (arith, leb→le n 10000 t);
       there = λ n i h. (omega arith, there n i);
-      only = λ n i p s. (omega (arith, only n i p (s .1), s .0), only n i p (s .1))
+      only = λ n i p s. (omega (arith, only n i p (s .1), s .0), only n i p (s .1));
     }
 
 pub lead-homes : Homes lead-meaning

@@ -4,20 +4,20 @@ use mathlib.Core.Path.{_≡_, refl, sym, ap, subst, _∙_}
 use mathlib.Core.Bool.{Bool, true, false, cond, _&&_}
 use mathlib.Core.List.{List, [], _∷_, _++_, map}
 use mathlib.Core.Logic.{_⊎_, inl, inr}
-use Prim.Native.Nat.{ℕ, zero, suc, _+_, _<_, _≤_}
-use native.Mathlib.Nat.{zero-add, add-suc, suc-add, add-zero, le-of-suc-le-suc, not-suc-le-zero}
+use Prim.Native.Nat.{ℕ, zero, suc, _+_, _-_, _*_, _/_, _<_, _≤_, min}
+use native.Mathlib.Nat.{zero-add, suc-add, add-zero, le-of-suc-le-suc, not-suc-le-zero, mul-le-mul-left, mul-div-le, lt-mul-div-succ}
 use native.Mathlib.Numerals.{add-one}
 use native.Mathlib.Omega.{arith}
-use lib.Dec.{T, eqb}
+use lib.Dec.{T, leb}
 use lib.ListN.{length, getD}
 use borrow.Author.Needs.{needs}
-use Rattle.std.proofs.shelf.Tests.{cases-bool, cases-lt, cases-order}
+use Rattle.std.proofs.shelf.Tests.{cases-bool, cases-lt, cases-order, le-leb, lt-leb}
 use Rattle.std.proofs.shelf.Lists.{length-map, length-push, getD-map, getD-push, getD-append-left, append-nil}
 use Rattle.std.specs.Iters.{counting}
 use Rattle.std.specs.shelf.Lists.{kept-by}
 use Rattle.stage.specs.declared.Marker.{Marker}
 use Rattle.stage.specs.Meaning.{first-place}
-use Rattle.layout.specs.Places.{how-many, markers-at}
+use Rattle.layout.specs.Places.{how-many, terms-to, markers-at}
 
 -- a passed test, both ways round
 pub T-true : (b : Bool) → T b → b ≡ true
@@ -66,6 +66,26 @@ pub how-many-all : (test : ℕ → Bool) (n : ℕ) → ((q : ℕ) → q < n → 
 how-many-all test n all zero h = refl
 how-many-all test n all (suc p) h = how-many-yes test p (all p h) ∙ ap suc (how-many-all test n all p (omega arith))
 
+-- the terms of a progression that are at most x, by a division
+pub terms-none : (x first step count : ℕ) → x < first → terms-to x first step count ≡ 0
+terms-none x first step count h =
+    let counted = how-many-past (λ k. leb (first + step * k) x) 0 count (λ k _. lt-leb (first + step * k) x (omega arith)) in
+    rw add-zero at counted
+
+pub terms-some : (x first step count : ℕ) → 0 < step → first ≤ x → terms-to x first step count ≡ min count ((x - first) / step + 1)
+terms-some x first step count pos h =
+    let last = (x - first) / step in
+    let test : ℕ → Bool = λ k. leb (first + step * k) x in
+    let reached : (k : ℕ) → k < last + 1 → test k ≡ true = λ k l. le-leb (first + step * k) x (omega (arith, mul-le-mul-left {m = k} {n = (x - first) / step} step (omega arith), mul-div-le (x - first) step)) in
+    let missed : (k : ℕ) → last + 1 ≤ k → test k ≡ false = λ k l. lt-leb (first + step * k) x (omega (arith, mul-le-mul-left step l, lt-mul-div-succ (x - first) pos)) in
+    elim (cases-lt (last + 1) count) [
+      | inl more ↦
+          let back : count - (last + 1) + (last + 1) ≡ count = omega arith in
+          let counted = how-many-past test (last + 1) (count - (last + 1)) missed in
+          (rw back at counted) ∙ how-many-all test (last + 1) reached (last + 1) (omega arith) ∙ omega arith
+      | inr all ↦ how-many-all test count (λ k l. reached k (omega arith)) count (omega arith) ∙ omega arith
+    ]
+
 -- counting to one more, and what of it is kept
 counting-push : (a n : ℕ) → counting a (suc n) ≡ counting a n ++ (a + n) ∷ []
 counting-push a zero = ap (λ m. m ∷ []) (sym (add-zero a))
@@ -96,8 +116,8 @@ pub length-passed : (test : ℕ → Bool) (n : ℕ) → length (passed test n) �
 length-passed test zero = refl
 length-passed test (suc n) =
     elim (cases-bool (test n)) [
-      inl e ↦ omega (arith, ap length (passed-yes test n e), length-push (passed test n) n, length-passed test n, how-many-yes test n e)
-    | inr e ↦ ap length (passed-no test n e) ∙ length-passed test n ∙ sym (how-many-no test n e)
+      | inl e ↦ omega (arith, ap length (passed-yes test n e), length-push (passed test n) n, length-passed test n, how-many-yes test n e)
+      | inr e ↦ ap length (passed-no test n e) ∙ length-passed test n ∙ sym (how-many-no test n e)
     ]
 
 -- the number before a place that passes is less than the number before any later place
@@ -105,17 +125,17 @@ pub how-many-below : (test : ℕ → Bool) (n p : ℕ) → p < n → test p ≡ 
 how-many-below test zero p h e = absurd (not-suc-le-zero h)
 how-many-below test (suc n) p h e =
     elim (cases-order p n) [
-      inl same ↦ rw same (omega (arith, how-many-yes test n (rw (← same) e)))
-    | inr (inl less) ↦ omega (arith, how-many-below test n p less e, how-many-step test n .0)
-    | inr (inr more) ↦ absurd (omega arith)
+      | inl same ↦ rw same (omega (arith, how-many-yes test n (rw (← same) e)))
+      | inr (inl less) ↦ omega (arith, how-many-below test n p less e, how-many-step test n .0)
+      | inr (inr more) ↦ absurd (omega arith)
     ]
 
 -- one more place leaves what stands at the indices so far
 grown : (test : ℕ → Bool) (n k d x : ℕ) → k < length (passed test n) → getD (passed test n) k d ≡ x → getD (passed test (suc n)) k d ≡ x
 grown test n k d x l e =
     elim (cases-bool (test n)) [
-      inl t ↦ ap (λ s. getD s k d) (passed-yes test n t) ∙ getD-append-left (passed test n) (n ∷ []) d k l ∙ e
-    | inr f ↦ ap (λ s. getD s k d) (passed-no test n f) ∙ e
+      | inl t ↦ ap (λ s. getD s k d) (passed-yes test n t) ∙ getD-append-left (passed test n) (n ∷ []) d k l ∙ e
+      | inr f ↦ ap (λ s. getD s k d) (passed-no test n f) ∙ e
     ]
 
 -- a place that passes stands at the index that counts those before it
@@ -123,13 +143,13 @@ pub passed-at : (test : ℕ → Bool) (n p d : ℕ) → p < n → test p ≡ tru
 passed-at test zero p d h e = absurd (not-suc-le-zero h)
 passed-at test (suc n) p d h e =
     elim (cases-order p n) [
-      inl same ↦
-        let yes-n : test n ≡ true = rw (← same) e in
-        ap (λ l. getD l (how-many test p) d) (passed-yes test n yes-n)
-        ∙ getD-push (passed test n) n d (how-many test p) (length-passed test n ∙ ap (how-many test) (sym same))
-        ∙ sym same
-    | inr (inl less) ↦ grown test n (how-many test p) d p (omega (arith, length-passed test n, how-many-below test n p less e)) (passed-at test n p d less e)
-    | inr (inr more) ↦ absurd (omega arith)
+      | inl same ↦
+          let yes-n : test n ≡ true = rw (← same) e in
+          ap (λ l. getD l (how-many test p) d) (passed-yes test n yes-n)
+          ∙ getD-push (passed test n) n d (how-many test p) (length-passed test n ∙ ap (how-many test) (sym same))
+          ∙ sym same
+      | inr (inl less) ↦ grown test n (how-many test p) d p (omega (arith, length-passed test n, how-many-below test n p less e)) (passed-at test n p d less e)
+      | inr (inr more) ↦ absurd (omega arith)
     ]
 
 -- what stands at an index passes, and so many before it do
@@ -137,17 +157,17 @@ pub passed-back : (test : ℕ → Bool) (n k d : ℕ) → k < length (passed tes
 passed-back test zero k d h = absurd (not-suc-le-zero h)
 passed-back test (suc n) k d h =
     elim (cases-lt k (length (passed test n))) [
-      inl old ↦
-        let back = passed-back test n k d old in
-        rw (grown test n k d (getD (passed test n) k d) old refl) (omega (arith, back .0), back .1, back .2)
-    | inr new ↦
-        elim (cases-bool (test n)) [
-          inl t ↦
-            let long : length (passed test n) ≡ k = omega (arith, ap length (passed-yes test n t), length-push (passed test n) n) in
-            let last : getD (passed test (suc n)) k d ≡ n = ap (λ s. getD s k d) (passed-yes test n t) ∙ getD-push (passed test n) n d k long in
-            rw last (omega arith, t, sym (length-passed test n) ∙ long)
-        | inr f ↦ absurd (omega (arith, ap length (passed-no test n f)))
-        ]
+      | inl old ↦
+          let back = passed-back test n k d old in
+          rw (grown test n k d (getD (passed test n) k d) old refl) (omega (arith, back .0), back .1, back .2)
+      | inr new ↦
+          elim (cases-bool (test n)) [
+            | inl t ↦
+                let long : length (passed test n) ≡ k = omega (arith, ap length (passed-yes test n t), length-push (passed test n) n) in
+                let last : getD (passed test (suc n)) k d ≡ n = ap (λ s. getD s k d) (passed-yes test n t) ∙ getD-push (passed test n) n d k long in
+                rw last (omega arith, t, sym (length-passed test n) ∙ long)
+            | inr f ↦ absurd (omega (arith, ap length (passed-no test n f)))
+          ]
     ]
 
 -- how many markers there are

@@ -30,7 +30,7 @@ pub at : (f : ℕ → Bool) (n : ℕ) → T (everywhere f n) → (k : ℕ) → k
 at f zero t k h = absurd (not-suc-le-zero h)
 at f (suc n) t k h =
     elim (cases-order k n) [
-      inl same ↦ rw same (both-left (f n) (everywhere f n) t)
-    | inr (inl less) ↦ at f n (both-right (f n) (everywhere f n) t) k less
-    | inr (inr more) ↦ absurd (omega arith)
+      | inl same ↦ rw same (both-left (f n) (everywhere f n) t)
+      | inr (inl less) ↦ at f n (both-right (f n) (everywhere f n) t) k less
+      | inr (inr more) ↦ absurd (omega arith)
     ]

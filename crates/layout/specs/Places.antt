@@ -2,7 +2,7 @@
 -- Assumes nothing.
 use mathlib.Core.Bool.{Bool, false, cond, _||_}
 use mathlib.Core.List.{List, [], _∷_, map}
-use Prim.Native.Nat.{ℕ, zero, suc}
+use Prim.Native.Nat.{ℕ, zero, suc, _+_, _*_}
 use lib.Dec.{eqb, leb}
 use Rattle.std.specs.Iters.{counting}
 use Rattle.std.specs.shelf.Lists.{kept-by}
@@ -21,6 +21,10 @@ is-one-of x (y ∷ ys) = eqb x y || is-one-of x ys
 abbrev pub how-many : (ℕ → Bool) → ℕ → ℕ
 how-many test zero = zero
 how-many test (suc p) = cond (test p) (suc (how-many test p)) (how-many test p)
+
+-- how many of so many numbers, the first and each a step further, are at most x
+abbrev pub terms-to : ℕ → ℕ → ℕ → ℕ → ℕ
+terms-to x first step count = how-many (λ k. leb (first + step * k) x) count
 
 -- the markers of a stream of n places: each place that passes a test, in order, with the bit there
 abbrev pub markers-at : (ℕ → Bool) → (ℕ → Bool) → ℕ → List Marker

@@ -7,9 +7,14 @@ ghost use Rattle.refusal.specs.Answer.{refused-when};
 ghost use Rattle.layout.specs.Places.{taken};
 use refusal::Refusal;
 
+mod inserter;
 mod interleaver;
 mod lead;
+mod period;
 
+pub use inserter::Inserter;
+pub use inserter::InserterMarked;
+pub use inserter::InserterStage;
 pub use interleaver::Interleaver;
 pub use interleaver::InterleaverMarked;
 pub use interleaver::InterleaverStage;
