@@ -49,25 +49,39 @@ pub fn standard_pile(preamble: [u8; 7]) -> StandardPile
 
 #[cfg(test)]
 mod tests {
+    use super::*;
+    use refusal::RefusalDebug;
+    use refusal::RefusalPartialEq;
     use stage::Content;
+    use stage::ContentDebug;
+    use stage::ContentPartialEq;
     use stage::Stage;
     use std::test::*;
-    use super::*;
 
     // the preamble that tests and programs use
     const USUAL: [u8; 7] = [0x56, 0x6E, 0xD2, 0x71, 0x56, 0x6E, 0xD2];
 
     #[test]
     fn lengths() -> Result<(), Fail> {
-        for (n, inserted) in [(0, 0), (1, 1), (8, 9), (48, 60), (320, 352), (321, 385), (336, 402), (10_000, 12_008)] {
-            check_eq(Inserter.length(n)?, inserted)?;
-            check_eq(Interleaver { preamble: USUAL }.length(n)?, n + 112)?;
-            check_eq(Lead.length(n)?, n + 8)?;
+        for (n, length) in [
+            (0, 0),
+            (8, 9),
+            (48, 60),
+            (320, 352),
+            (321, 385),
+            (336, 402),
+            (10_000, 12_008),
+        ] {
+            check_eq(Inserter.length(n)?, length)?;
+        }
+        for (n, length) in [(0, 112), (10_000, 10_112)] {
+            check_eq(Interleaver { preamble: USUAL }.length(n)?, length)?;
         }
         let pile = standard_pile(USUAL);
         for (n, length) in [(48, 180), (336, 522), (7_696, 9_354)] {
             check_eq(pile.length(n)?, length)?;
         }
+        check_eq(Lead.length(10_000)?, 10_008)?;
         check_eq(pile.length(10_000), Err(Refusal::CountNotTaken))
     }
 
@@ -75,7 +89,10 @@ mod tests {
     fn refusals() -> Result<(), Fail> {
         check_eq(Inserter.length(10_001), Err(Refusal::CountNotTaken))?;
         check_eq(Lead.home(10_001, 0), Err(Refusal::CountNotTaken))?;
-        check_eq(Interleaver { preamble: USUAL }.content(0, 112), Err(Refusal::NoSuchPlace))?;
+        check_eq(
+            Interleaver { preamble: USUAL }.content(0, 112),
+            Err(Refusal::NoSuchPlace),
+        )?;
         check_eq(Inserter.content(0, 0), Err(Refusal::NoSuchPlace))?;
         check_eq(Inserter.home(48, 48), Err(Refusal::NoSuchPlace))
     }
@@ -86,7 +103,16 @@ mod tests {
         for (element, place) in [(7, 119), (22, 118), (112, 112)] {
             check_eq(interleaver.home(120, element)?, place)?;
         }
-        for (element, place) in [(6, 6), (7, 8), (20, 24), (104, 135), (105, 137), (319, 351), (320, 384), (9_999, 12_007)] {
+        for (element, place) in [
+            (6, 6),
+            (7, 8),
+            (20, 24),
+            (104, 135),
+            (105, 137),
+            (319, 351),
+            (320, 384),
+            (9_999, 12_007),
+        ] {
             check_eq(Inserter.home(10_000, element)?, place)?;
         }
         Ok(())
