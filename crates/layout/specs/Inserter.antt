@@ -42,7 +42,7 @@ abbrev pub inserter-at : ℕ → ℕ → Content
 inserter-at n p =
     cond (is-mute p) Mute (cond (is-resync p) (Fixed (resync-bit p)) (Carried (how-many is-carrier p)))
 
--- the stream ends with the last element: nothing is inserted behind it
+-- the stream ends with the last element, which lies within so many periods: nothing is inserted behind it
 abbrev pub inserter-size : ℕ → ℕ
 inserter-size zero = zero
 inserter-size (suc last) = suc (first-place (λ p. carries (inserter-at (suc last) p) last) (384 * suc (last / 320)))

@@ -2,3 +2,4 @@ pub mod Inserter
 pub mod Interleaver
 pub mod Lead
 pub mod Places
+pub mod Standard
