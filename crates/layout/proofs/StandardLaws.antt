@@ -1,13 +1,14 @@
--- The worked examples hold.
+-- Worked lengths and homes, for every preamble.
 -- Assumes nothing.
 use mathlib.Core.List.{List}
 use mathlib.Core.Path.{_≡_, refl, ap, _∙_}
-use Prim.Native.Nat.{ℕ, suc, _+_}
+use Prim.Native.Nat.{ℕ, suc, _+_, _<_}
 use lib.Dec.{T, leb}
 use Rattle.std.specs.declared.result.Result.the-variants.{Ok}
-use Rattle.stage.specs.Meaning.{length-answer}
+use Rattle.stage.specs.Meaning.{home-of, length-answer}
 use Rattle.layout.specs.Inserter.{inserter-size, inserter-meaning}
-use Rattle.layout.specs.Standard.{standard-meaning, Worked}
+use Rattle.layout.specs.Interleaver.{interleaver-meaning}
+use Rattle.layout.specs.Standard.{standard-meaning}
 use Rattle.layout.proofs.InserterLaws.{spot, place-of, size-is}
 use Rattle.layout.proofs.Places.{T-true}
 use Rattle.layout.proofs.InterleaverLaws.{interleaver-home}
@@ -34,6 +35,18 @@ inserted n k t e = rw (T-true (leb n 10000) t, e)
 burst : (preamble : List ℕ) (n k : ℕ) → T (leb n 10000) → inserter-size n ≡ k → T (leb k 10000) → T (leb (k + 112) 10000) → length-answer (standard-meaning preamble) n ≡ Ok (k + 112 + 8)
 burst preamble n k t e u v = rw (e, T-true (leb n 10000) t, T-true (leb k 10000) u, T-true (leb (k + 112) 10000) v)
 
+-- Worked examples: lengths behind the inserter for texts of 1 and 10 octets, bursts for 1, 10 and 240,
+-- and three homes in the interleaver.
+pub record Worked (preamble : List ℕ) : Type 0 where
+  pub inserted-1 : length-answer inserter-meaning 48 ≡ Ok 60
+  pub inserted-10 : length-answer inserter-meaning 336 ≡ Ok 402
+  pub burst-1 : length-answer (standard-meaning preamble) 48 ≡ Ok 180
+  pub burst-10 : length-answer (standard-meaning preamble) 336 ≡ Ok 522
+  pub burst-240 : length-answer (standard-meaning preamble) 7696 ≡ Ok 9354
+  pub home-7 : (n : ℕ) → 7 < n → home-of (interleaver-meaning preamble) n 7 ≡ 119
+  pub home-22 : (n : ℕ) → 22 < n → home-of (interleaver-meaning preamble) n 22 ≡ 118
+  pub home-112 : (n : ℕ) → 112 < n → home-of (interleaver-meaning preamble) n 112 ≡ 112
+
 pub worked : (preamble : List ℕ) → Worked preamble
 worked preamble =
     record {
@@ -44,5 +57,5 @@ worked preamble =
       burst-240 = burst preamble 7696 9234 tt sized-7696 tt tt;
       home-7 = λ n h. interleaver-home preamble n 7 h;
       home-22 = λ n h. interleaver-home preamble n 22 h;
-      home-112 = λ n h. interleaver-home preamble n 112 h
+      home-112 = λ n h. interleaver-home preamble n 112 h;
     }

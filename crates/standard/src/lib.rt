@@ -5,7 +5,6 @@ ghost use Rattle.std.specs.declared.result.Result.the-variants.{Ok};
 ghost use Rattle.refusal.specs.declared.Refusal.the-variants.{CountNotTaken};
 ghost use Rattle.refusal.specs.Answer.{refused-when};
 ghost use Rattle.layout.specs.Places.{taken};
-ghost use Rattle.layout.specs.Standard.{Worked};
 use pile::Pile;
 use pile::PileStage;
 use refusal::Refusal;
@@ -41,10 +40,9 @@ fn check_count(n: usize) -> Result<(), Refusal>
 // The standard pile: the inserter, then the interleaver, then the lead on top.
 pub type StandardPile = Pile<Pile<Inserter, Interleaver>, Lead>;
 
-// The standard pile with a preamble of 56 bits. The worked lengths and homes hold for every preamble.
+// The standard pile with a preamble of 56 bits.
 pub fn standard_pile(preamble: [u8; 7]) -> StandardPile
-    ensures value { λ r. ⌜ r .lower .upper .preamble ≡ preamble ⌝ }
-    ensures worked { λ _. ⌜ Worked preamble ⌝ }
+    ensures { λ r. ⌜ r .lower .upper .preamble ≡ preamble ⌝ }
 {
     Pile::new(Pile::new(Inserter, Interleaver { preamble }), Lead)
 }
