@@ -82,3 +82,6 @@ pub fn write_wave(samples: &[i16], out: &mut [u8]) -> Result<usize, Refusal>
     }
     Ok(HEADER + 2 * count)
 }
+
+#[cfg(test)]
+mod tests;

@@ -73,3 +73,6 @@ pub fn write_values(m: usize, elements: &[u8], out: &mut [u8]) -> Result<usize, 
     }
     Ok(size)
 }
+
+#[cfg(test)]
+mod tests;
