@@ -18,8 +18,8 @@ use Rattle.std.specs.Floats.{most}
 use Rattle.std.specs.declared.result.Result.the-variants.{Ok, Err}
 use Rattle.card.specs.declared.Levels.{Levels}
 use Rattle.card.specs.declared.Reading.the-variants.{Levels as Measured, Balance, Lost}
-use Rattle.card.specs.Floats.{nought, one, minus-one, full, loudest, level-taken, balance-taken, share, strength}
-use Rattle.card.specs.Card.{taken, first-one, first-zero, second-one, second-zero, greatest, levels-pair, answer, InRange, Only, Exact, Promised, first-swapped, second-swapped}
+use Rattle.card.specs.Floats.{nought, one, minus-one, full, loudest, is-level, is-balance, share, strength}
+use Rattle.card.specs.Readings.{in-range, first-one, first-zero, second-one, second-zero, greatest, levels-pair, answer, IsValue, Only, Exact, Promised, first-swapped, second-swapped}
 use lib.Signed.{leZ-yes}
 use Rattle.card.proofs.Rounding.{Within, neg-within, mul-within, cut-within, in-i64}
 use Rattle.card.proofs.Fractions.{Level, level-of, level-le, no-le, level-eq, level-positive, most-level, most-comm, not-nan, Same, difference}
@@ -27,7 +27,7 @@ use Rattle.card.proofs.Shares as Shares
 
 -- ---- the floats of the rules
 
-pub level-is : (x : Float) → T (level-taken x) → Level x
+pub level-is : (x : Float) → T (is-level x) → Level x
 unfolding ofBits
 level-is x t = level-of x 1 (pos 15) (and-l (le nought x) (le x loudest) t) (and-r (le nought x) (le x loudest) t)
 
@@ -38,7 +38,7 @@ Under x y = num x * den y ≤ num y * den x
 -- ---- what two opposing levels give under the greatest, of which they are parts
 
 module _ (x y : Float) (X : Level x) (Y : Level y) where
-  pub share-taken : (g : Float) → T (positive g) → T (fits binary32 g) → Under x g → Under y g → T (balance-taken (share x y g))
+  pub share-taken : (g : Float) → T (positive g) → T (fits binary32 g) → Under x g → Under y g → T (is-balance (share x y g))
   unfolding ofBits neg
   share-taken nan P F u v = absurd P
   share-taken (inf s) P F u v = absurd P
@@ -81,9 +81,9 @@ module _ (x y : Float) (X : Level x) (Y : Level y) where
   alike x' y' (fin false n k) (fin false n' k') X' Y' P P' F u v p q r = Shares.same x y x' y' n k n' k' X Y X' Y' (ltb→lt 0 n P) (ltb→lt 0 n' P') F u v p q r
 
 -- a share from -1 to 1 gives a value from -127 to 127
-pub in-range : (x : Float) → T (balance-taken x) → InRange (strength x)
+pub is-value : (x : Float) → T (is-balance x) → IsValue (strength x)
 unfolding ofBits neg
-in-range x t =
+is-value x t =
     let w = Shares.one-within x (and-l (le minus-one x) (le x one) t) (and-r (le minus-one x) (le x one) t) in
     cut-within (w .0) (mul binary32 x full) (mul-within (w .0) x (w .1))
 
@@ -91,16 +91,16 @@ pub pair-of : {p q r s : ℤ} → p ≡ r → q ≡ s → (_≡_ {A = ℤ × ℤ
 pair-of p q = λ i. (p i, q i)
 
 -- negated balances give the opposite
-negated : (x : Float) → T (balance-taken x) → T (balance-taken (neg x)) × (strength (neg x) ≡ negℤ (strength x))
+negated : (x : Float) → T (is-balance x) → T (is-balance (neg x)) × (strength (neg x) ≡ negℤ (strength x))
 unfolding ofBits neg
 negated x t =
     let w = Shares.one-within x (and-l (le minus-one x) (le x one) t) (and-r (le minus-one x) (le x one) t) in
     let b = Shares.within-one (not (w .0)) (neg x) (neg-within (w .0) 1 1 x (w .1)) in
     (and-i (le minus-one (neg x)) (le (neg x) one) (b .0) (b .1), Shares.strength-neg (w .0) x (w .1))
 
-pub balance-turned : (x y : Float) → T (balance-taken x) → T (balance-taken y) → answer (Balance (neg x) (neg y)) ≡ Ok (negℤ (strength x), negℤ (strength y))
+pub balance-turned : (x y : Float) → T (is-balance x) → T (is-balance y) → answer (Balance (neg x) (neg y)) ≡ Ok (negℤ (strength x), negℤ (strength y))
 balance-turned x y p q =
-    rw (is-true (balance-taken (neg x) && balance-taken (neg y)) (and-i (balance-taken (neg x)) (balance-taken (neg y)) (negated x p .0) (negated y q .0)))
+    rw (is-true (is-balance (neg x) && is-balance (neg y)) (and-i (is-balance (neg x)) (is-balance (neg y)) (negated x p .0) (negated y q .0)))
     (ap Ok (pair-of (negated x p .1) (negated y q .1)))
 
 -- ---- the greater of two levels is at least each, and whatever holds of both holds of it
@@ -163,20 +163,20 @@ pub loud : (x : Float) → Level x → eq x nought ≡ false → T (positive x)
 unfolding ofBits
 loud x p h = level-positive x p h
 
--- ---- four levels that are taken
+-- ---- four levels that are in-range
 
-module _ (l : Levels) (t : T (taken l)) where
+module _ (l : Levels) (t : T (in-range l)) where
   abbrev t400 : Bool
-  t400 = level-taken (l .hz400)
+  t400 = is-level (l .hz400)
 
   abbrev t600 : Bool
-  t600 = level-taken (l .hz600)
+  t600 = is-level (l .hz600)
 
   abbrev t800 : Bool
-  t800 = level-taken (l .hz800)
+  t800 = is-level (l .hz800)
 
   abbrev t1000 : Bool
-  t1000 = level-taken (l .hz1000)
+  t1000 = is-level (l .hz1000)
 
   is400 : T t400
   is400 = and-l t400 t600 (and-l (t400 && t600) t800 (and-l (t400 && t600 && t800) t1000 t))
@@ -249,10 +249,10 @@ module _ (l : Levels) (t : T (taken l)) where
     P : T (positive (greatest l))
     P = loud (greatest l) level-greatest loud-one
 
-    pub first-taken : T (balance-taken (share (first-one l) (first-zero l) (greatest l)))
+    pub first-taken : T (is-balance (share (first-one l) (first-zero l) (greatest l)))
     first-taken = share-taken (first-one l) (first-zero l) level-first-one level-first-zero (greatest l) P F one≤ zero≤
 
-    pub second-taken : T (balance-taken (share (second-one l) (second-zero l) (greatest l)))
+    pub second-taken : T (is-balance (share (second-one l) (second-zero l) (greatest l)))
     second-taken = share-taken (second-one l) (second-zero l) level-second-one level-second-zero (greatest l) P F second-one≤ second-zero≤
 
     -- a side that is as loud as the greatest, against one that is silent
@@ -325,32 +325,32 @@ same-tested g h G H e = go (eq g nought) (eq h nought) refl refl
     go true false p q = sym (is-silent h H (same-zero h g (sym e) (silent g G p))) ∙ q
     go false true p q = sym p ∙ is-silent g G (same-zero g h e (silent h H q))
 
-answered : (l : Levels) → T (taken l) → (b : Bool) → eq (greatest l) nought ≡ b
+answered : (l : Levels) → T (in-range l) → (b : Bool) → eq (greatest l) nought ≡ b
     → answer (Measured l) ≡ Ok (cond b (pos 0, pos 0) (strength (share (first-one l) (first-zero l) (greatest l)), strength (share (second-one l) (second-zero l) (greatest l))))
-answered l t b h = rw (is-true (taken l) t, h) refl
+answered l t b h = rw (is-true (in-range l) t, h) refl
 
 -- levels l' with the same greatest level as l
 abbrev Alike : Levels → Levels → Type 0
 Alike l l' = Same (greatest l) (greatest l')
 
-first-alike : (l : Levels) → T (taken l) → T (taken (first-swapped l)) → Alike l (first-swapped l)
+first-alike : (l : Levels) → T (in-range l) → T (in-range (first-swapped l)) → Alike l (first-swapped l)
 first-alike l t t' =
     let g' = greatest (first-swapped l) in
     le-antisymm (greatest≤ l t g' (u800 (first-swapped l) t') (u1000 (first-swapped l) t') (u400 (first-swapped l) t') (u600 (first-swapped l) t'))
     (greatest≤ (first-swapped l) t' (greatest l) (u800 l t) (u1000 l t) (u400 l t) (u600 l t))
 
-second-alike : (l : Levels) → T (taken l) → T (taken (second-swapped l)) → Alike l (second-swapped l)
+second-alike : (l : Levels) → T (in-range l) → T (in-range (second-swapped l)) → Alike l (second-swapped l)
 second-alike l t t' =
     let g' = greatest (second-swapped l) in
     le-antisymm (greatest≤ l t g' (u600 (second-swapped l) t') (u400 (second-swapped l) t') (u1000 (second-swapped l) t') (u800 (second-swapped l) t'))
     (greatest≤ (second-swapped l) t' (greatest l) (u600 l t) (u400 l t) (u1000 l t) (u800 l t))
 
-module _ (l : Levels) (t : T (taken l)) where
-  first-still : T (taken (first-swapped l))
-  first-still = four (level-taken (l .hz800)) (level-taken (l .hz1000)) (level-taken (l .hz400)) (level-taken (l .hz600)) (is800 l t) (is1000 l t) (is400 l t) (is600 l t)
+module _ (l : Levels) (t : T (in-range l)) where
+  first-still : T (in-range (first-swapped l))
+  first-still = four (is-level (l .hz800)) (is-level (l .hz1000)) (is-level (l .hz400)) (is-level (l .hz600)) (is800 l t) (is1000 l t) (is400 l t) (is600 l t)
 
-  second-still : T (taken (second-swapped l))
-  second-still = four (level-taken (l .hz600)) (level-taken (l .hz400)) (level-taken (l .hz1000)) (level-taken (l .hz800)) (is600 l t) (is400 l t) (is1000 l t) (is800 l t)
+  second-still : T (in-range (second-swapped l))
+  second-still = four (is-level (l .hz600)) (is-level (l .hz400)) (is-level (l .hz1000)) (is-level (l .hz800)) (is600 l t) (is400 l t) (is1000 l t) (is800 l t)
 
   first-test : eq (greatest (first-swapped l)) nought ≡ eq (greatest l) nought
   first-test = same-tested (greatest (first-swapped l)) (greatest l) (level-greatest (first-swapped l) first-still) (level-greatest l t) (sym (first-alike l t first-still))
@@ -373,7 +373,7 @@ module _ (l : Levels) (t : T (taken l)) where
       }
 
   module _ (h : eq (greatest l) nought ≡ false) (F : T (fits binary32 (greatest l))) where
-    turned : (l' : Levels) (t' : T (taken l')) → eq (greatest l') nought ≡ eq (greatest l) nought → (v w : ℤ)
+    turned : (l' : Levels) (t' : T (in-range l')) → eq (greatest l') nought ≡ eq (greatest l) nought → (v w : ℤ)
         → strength (share (first-one l') (first-zero l') (greatest l')) ≡ v → strength (share (second-one l') (second-zero l') (greatest l')) ≡ w → answer (Measured l') ≡ Ok (v, w)
     turned l' t' e v w p q = answered l' t' false (e ∙ h) ∙ ap Ok (pair-of p q)
 
@@ -422,13 +422,13 @@ module _ (l : Levels) (t : T (taken l)) where
 
 -- ---- 127 times a share can be cut to a whole number of 8 bits
 
-pub castable : (x : Float) → T (balance-taken x) → T (le (fin true 1 (pos 63)) (mul binary32 x full)) × T (lt (mul binary32 x full) (fin false 1 (pos 63)))
+pub castable : (x : Float) → T (is-balance x) → T (le (fin true 1 (pos 63)) (mul binary32 x full)) × T (lt (mul binary32 x full) (fin false 1 (pos 63)))
 unfolding ofBits neg
 castable x t =
     let w = Shares.one-within x (and-l (le minus-one x) (le x one) t) (and-r (le minus-one x) (le x one) t) in
     in-i64 (w .0) (mul binary32 x full) (mul-within (w .0) x (w .1))
 
-pub eight-bits : (v : ℤ) → InRange v → SFits w8 v
+pub eight-bits : (v : ℤ) → IsValue v → SFits w8 v
 eight-bits (pos n) b = record { sfits = let h = leb→le n 127 (b .1 .le) in omega arith }
 eight-bits (negsuc n) b = record { sfits = let h = leb→le n 126 (b .0 .le) in omega arith }
 
@@ -441,15 +441,15 @@ pub pair-loud : (l : Levels) → eq (greatest l) nought ≡ false
     → levels-pair l ≡ (strength (share (first-one l) (first-zero l) (greatest l)), strength (share (second-one l) (second-zero l) (greatest l)))
 pair-loud l h = rw h refl
 
-none-in-range : InRange (pos 0)
-none-in-range = (leZ-yes tt, leZ-yes tt)
+none-is-value : IsValue (pos 0)
+none-is-value = (leZ-yes tt, leZ-yes tt)
 
-pub promised : (l : Levels) → T (taken l) → T (fits binary32 (greatest l)) → Promised (Measured l) (levels-pair l)
+pub promised : (l : Levels) → T (in-range l) → T (fits binary32 (greatest l)) → Promised (Measured l) (levels-pair l)
 promised l t F = go (eq (greatest l) nought) refl
   where
-    both : (v : ℤ × ℤ) → levels-pair l ≡ v → InRange (v .0) → InRange (v .1) → Promised (Measured l) (levels-pair l)
-    both v e p q = record { first-in-range = subst (λ (w : ℤ × ℤ). InRange (w .0)) (sym e) p; second-in-range = subst (λ (w : ℤ × ℤ). InRange (w .1)) (sym e) q; exact = exact l t F }
+    both : (v : ℤ × ℤ) → levels-pair l ≡ v → IsValue (v .0) → IsValue (v .1) → Promised (Measured l) (levels-pair l)
+    both v e p q = record { first-value = subst (λ (w : ℤ × ℤ). IsValue (w .0)) (sym e) p; second-value = subst (λ (w : ℤ × ℤ). IsValue (w .1)) (sym e) q; exact = exact l t F }
 
     go : (b : Bool) → eq (greatest l) nought ≡ b → Promised (Measured l) (levels-pair l)
-    go true h = both (pos 0, pos 0) (pair-silent l h) none-in-range none-in-range
-    go false h = both (strength (share (first-one l) (first-zero l) (greatest l)), strength (share (second-one l) (second-zero l) (greatest l))) (pair-loud l h) (in-range (share (first-one l) (first-zero l) (greatest l)) (first-taken l t h F)) (in-range (share (second-one l) (second-zero l) (greatest l)) (second-taken l t h F))
+    go true h = both (pos 0, pos 0) (pair-silent l h) none-is-value none-is-value
+    go false h = both (strength (share (first-one l) (first-zero l) (greatest l)), strength (share (second-one l) (second-zero l) (greatest l))) (pair-loud l h) (is-value (share (first-one l) (first-zero l) (greatest l)) (first-taken l t h F)) (is-value (share (second-one l) (second-zero l) (greatest l)) (second-taken l t h F))

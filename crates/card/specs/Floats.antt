@@ -1,11 +1,12 @@
--- The floats that the rules of card readings name, and the three steps from a share to a value.
+-- The floats that the rules of card readings name, the two ranges, and the steps from levels to a value.
+-- `fin s m e` is m * 2 ^ e, negative where s is true; `binary32` is `f32`.
 -- Assumes nothing.
 use mathlib.Core.Path.{_≡_, refl}
 use mathlib.Core.Bool.{Bool, true, false, _&&_}
 use lib.IntN.{ℤ, pos}
 use lib.Ieee.{Float, fin, binary32, ofBits, neg, sub, div, mul, le, toSigned}
 
--- 0, 1, -1, 127 and 32768, by their bits; each is shown below to be that number
+-- 0, 1, -1, 127 and 32768 by their bits, as the code's literals are; the five lines after them show that these are the numbers
 abbrev pub nought : Float
 nought = ofBits binary32 0
 
@@ -41,18 +42,18 @@ pub loudest-is : loudest ≡ fin false 1 (pos 15)
 unfolding ofBits
 loudest-is = refl
 
--- a level is taken from 0 to 32768
-abbrev pub level-taken : Float → Bool
-level-taken x = le nought x && le x loudest
+-- a level lies from 0 to 32768; what is not a number does not
+abbrev pub is-level : Float → Bool
+is-level x = le nought x && le x loudest
 
--- a balance is taken from -1 to 1
-abbrev pub balance-taken : Float → Bool
-balance-taken x = le minus-one x && le x one
+-- a balance lies from -1 to 1
+abbrev pub is-balance : Float → Bool
+is-balance x = le minus-one x && le x one
 
--- by how much the level for a 1 exceeds the level for a 0, as a part of the greatest level
+-- by how much the level for a 1 exceeds the level for a 0, as a share of the greatest level; each operation is rounded once
 abbrev pub share : Float → Float → Float → Float
 share ones zeros greatest = div binary32 (sub binary32 ones zeros) greatest
 
--- the value of a share: 127 times it, without the fraction
+-- the value of a share: 127 times it, rounded once, without the fraction
 abbrev pub strength : Float → ℤ
 strength part = toSigned 63 (mul binary32 part full)

@@ -7,8 +7,8 @@ use mir.Syntax.{w8, w64}
 use mir.Val.{toZ, ofZ, SFits}
 use mir.ValLaws.{toZ-ofZ}
 use Rattle.card.specs.Floats.{strength}
-use Rattle.card.specs.Card.{InRange}
-use Rattle.card.proofs.Pairs.{castable, in-range, eight-bits}
+use Rattle.card.specs.Readings.{IsValue}
+use Rattle.card.proofs.Pairs.{castable, is-value, eight-bits}
 use Rattle.card.proofs.strength.Needs as need
 
 pub without-fraction-requires : need.without-fraction-requires
@@ -22,11 +22,11 @@ is : (c : need.After-without-fraction) → toZ w64 (ofZ w64 (c .without-fraction
 is c = toZ-ofZ w64 (c .without-fraction .result) (record { sfits = c .without-fraction .ok }) ∙ c .without-fraction .ensures ∙ ap (toSigned 63) (c .at-full-strength .ensures)
 
 pub cast-result : need.cast-result
-cast-result c = subst (SFits w8) (sym (is c)) (eight-bits (strength (c .args .part)) (in-range (c .args .part) (c .pre)))
+cast-result c = subst (SFits w8) (sym (is c)) (eight-bits (strength (c .args .part)) (is-value (c .args .part) (c .pre)))
 
 pub returns : need.returns
 returns c =
     let v = strength (c .args .part) in
-    let b = in-range (c .args .part) (c .pre) in
+    let b = is-value (c .args .part) (c .pre) in
     let e = ap (λ (z : ℤ). toZ w8 (ofZ w8 z)) (is c) ∙ toZ-ofZ w8 v (eight-bits v b) in
-    record { is = e; bounded = subst InRange (sym e) b }
+    record { is = e; value = subst IsValue (sym e) b }

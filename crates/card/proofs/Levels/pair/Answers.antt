@@ -7,8 +7,8 @@ use mir.Syntax.{w8}
 use mir.ValLaws.{toZ-ofZ}
 use Rattle.card.specs.declared.Levels.{Levels}
 use Rattle.card.specs.declared.Reading.the-variants.{Levels as Measured}
-use Rattle.card.specs.Floats.{nought, balance-taken, share, strength}
-use Rattle.card.specs.Card.{greatest, first-one, first-zero, second-one, second-zero, Promised}
+use Rattle.card.specs.Floats.{nought, is-balance, share, strength}
+use Rattle.card.specs.Readings.{greatest, first-one, first-zero, second-one, second-zero, Promised}
 use Rattle.card.proofs.Pairs.{pair-of, pair-silent, pair-loud, promised, first-taken, second-taken}
 use Rattle.card.proofs.Levels.pair.Needs as need
 
@@ -31,14 +31,14 @@ strength-requires c κs =
     let l = c .args .self .now in
     let g = c .greatest-greatest in
     let e : c .share-first .result ≡ share (first-one l) (first-zero l) (greatest l) = cc in
-    subst (λ (x : Float). T (balance-taken x)) (sym e) (first-taken l (c .pre) (loud (g .result) l (c .if-greatest .left) (g .ensures)) (held (g .result) l (g .ok) (g .ensures)))
+    subst (λ (x : Float). T (is-balance x)) (sym e) (first-taken l (c .pre) (loud (g .result) l (c .if-greatest .left) (g .ensures)) (held (g .result) l (g .ok) (g .ensures)))
 
 pub strength-requires-2 : need.strength-requires-2
 strength-requires-2 c κs =
     let l = c .args .self .now in
     let g = c .greatest-greatest in
     let e : c .share-second .result ≡ share (second-one l) (second-zero l) (greatest l) = cc in
-    subst (λ (x : Float). T (balance-taken x)) (sym e) (second-taken l (c .pre) (loud (g .result) l (c .if-greatest .left) (g .ensures)) (held (g .result) l (g .ok) (g .ensures)))
+    subst (λ (x : Float). T (is-balance x)) (sym e) (second-taken l (c .pre) (loud (g .result) l (c .if-greatest .left) (g .ensures)) (held (g .result) l (g .ok) (g .ensures)))
 
 pub returns : need.returns
 returns c =
