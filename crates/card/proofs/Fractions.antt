@@ -1,16 +1,15 @@
 -- Levels as fractions that are not negative: their order, the greater of two, and their difference before it is rounded.
-use mathlib.Core.Path.{_≡_, refl, sym, ap, _∙_, subst}
-use mathlib.Core.Logic.{_⊎_, inl, inr}
+use mathlib.Core.Path.{_≡_, refl, ap, _∙_}
 use mathlib.Core.Bool.{Bool, true, false, not, _&&_, _||_, cond, true≢false}
-use Prim.Native.Nat.{ℕ, zero, suc, _+_, _-_, _*_, _^_, _≤_, _<_}
-use native.Mathlib.Nat.{le-trans, le-of-eq, le-of-lt, le-antisymm, mul-comm, mul-assoc, zero-mul, mul-right-comm, mul-pos, mul-le-mul-right, zero-lt-suc, eq-zero-or-pos}
+use Prim.Native.Nat.{ℕ, zero, suc, _+_, _-_, _*_, _≤_, _<_}
+use native.Mathlib.Nat.{le-antisymm, zero-mul, zero-lt-suc}
 use native.Mathlib.Omega.{arith}
-use lib.IntN.{ℤ, pos, negsuc}
+use lib.IntN.{ℤ, pos}
 use lib.Dec.{T, ltb, eqb, ltb→lt, lt→ltb, nltb→le, eqb→eq}
-use lib.Ieee.{Float, nan, inf, fin, Format, up, down, round, sum, sub, neg, le, lt, eq, isNan}
-use lib.Ieee.Fits.{and-l, and-r, down-pos, up-pos}
+use lib.Ieee.{Float, nan, inf, fin, Format, up, down, round, sum, sub, le, eq, isNan}
+use lib.Ieee.Fits.{and-l, and-r}
 use lib.Ieee.Positive.{num, den, positive}
-use borrow.Author.Tests.{eq-eqb, le-ltb}
+use borrow.Author.Tests.{eq-eqb}
 use Rattle.std.specs.Floats.{most}
 use Rattle.card.proofs.Rounding.{le-out}
 

@@ -1,27 +1,27 @@
 -- The pair of four levels: within range, and exact where one tone sounds alone, where two sides are even, and where they are exchanged.
 use mathlib.Core.Path.{_≡_, refl, sym, ap, _∙_, subst}
 use mathlib.Core.Bool.{Bool, true, false, not, _&&_, _||_, cond, true≢false}
-use Prim.Native.Nat.{ℕ, zero, suc, _+_, _-_, _*_, _^_, _≤_, _<_}
+use Prim.Native.Nat.{ℕ, _-_, _*_, _≤_}
 use mathlib.Core.Logic.{inl, inr}
 use native.Mathlib.Nat.{le-trans, le-of-eq, le-refl, le-antisymm, zero-mul, mul-pos, eq-zero-or-pos, not-le-of-lt}
 use native.Mathlib.Omega.{arith}
 use lib.IntN.{ℤ, pos, negsuc, negℤ}
-use lib.Dec.{T, ltb, eqb, ltb→lt, eqb→eq, leb→le}
+use lib.Dec.{T, ltb→lt, eqb→eq, leb→le}
 use mir.Syntax.{w8}
 use mir.Val.{SFits}
-use lib.Ieee.{Float, nan, inf, fin, binary32, up, down, sub, div, mul, neg, le, lt, eq, fits, isNan, ofBits, toSigned}
+use lib.Ieee.{Float, nan, inf, fin, binary32, up, down, sub, div, mul, neg, le, lt, eq, fits, isNan, ofBits}
 use lib.Ieee.Fits.{and-l, and-r, and-i}
 use lib.Ieee.Bits.{is-true}
 use lib.Ieee.Positive.{num, den, den-pos, positive, through}
 use borrow.Author.Tests.{eq-eqb, ltb-true}
 use Rattle.std.specs.Floats.{most}
-use Rattle.std.specs.declared.result.Result.the-variants.{Ok, Err}
+use Rattle.std.specs.declared.result.Result.the-variants.{Ok}
 use Rattle.card.specs.declared.Levels.{Levels}
-use Rattle.card.specs.declared.Reading.the-variants.{Levels as Measured, Balance, Lost}
+use Rattle.card.specs.declared.Reading.the-variants.{Levels as Measured, Balance}
 use Rattle.card.specs.Floats.{nought, one, minus-one, full, loudest, is-level, is-balance, share, strength}
 use Rattle.card.specs.Readings.{in-range, first-one, first-zero, second-one, second-zero, greatest, levels-pair, answer, IsValue, Only, Exact, Promised, first-swapped, second-swapped}
 use lib.Signed.{leZ-yes}
-use Rattle.card.proofs.Rounding.{Within, neg-within, mul-within, cut-within, in-i64}
+use Rattle.card.proofs.Rounding.{neg-within, mul-within, cut-within, in-i64}
 use Rattle.card.proofs.Fractions.{Level, level-of, level-le, no-le, level-eq, level-positive, most-level, most-comm, not-nan, Same, difference}
 use Rattle.card.proofs.Shares as Shares
 

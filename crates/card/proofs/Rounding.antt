@@ -3,19 +3,19 @@ use mathlib.Core.Path.{_≡_, refl, sym, ap, _∙_, subst}
 use mathlib.Core.Logic.{_⊎_, inl, inr}
 use mathlib.Core.Bool.{Bool, true, false, not, _&&_, _||_, cond, true≢false}
 use Prim.Native.Nat.{ℕ, zero, suc, _+_, _-_, _*_, _/_, _%_, _^_, _≤_, _<_, min}
-use native.Mathlib.Nat.{le-trans, le-of-eq, le-of-lt, not-le-of-lt, mul-comm, mul-assoc, mul-one, one-mul, mul-left-comm, mul-right-comm, mul-pos, mul-le-mul-right, lt-of-mul-lt-mul-right, mul-lt-mul-of-pos-right, eq-zero-or-pos, zero-lt-suc, div-le-of-le-mul}
+use native.Mathlib.Nat.{le-of-eq, le-of-lt, not-le-of-lt, mul-comm, mul-assoc, mul-one, one-mul, mul-right-comm, mul-pos, lt-of-mul-lt-mul-right, mul-lt-mul-of-pos-right, eq-zero-or-pos, div-le-of-le-mul}
 use native.Mathlib.Omega.{arith}
 use lib.IntN.{ℤ, pos, negsuc, negℤ, negℤ-negℤ}
 use lib.Dec.{T, leb, ltb, eqb, ltb→lt, lt→ltb, leb→le, le→leb, eqb→eq, lit≤}
 use lib.Signed.{_≤ℤ_, leZ-yes}
 use lib.Pow.{pow-add, pow-pos, pow-lt}
-use lib.Ieee.{Float, nan, inf, fin, Format, binary32, prec, emax, low, up, down, unlike, units, odd, round, fits, le, lt, neg, div, mul, toSigned}
+use lib.Ieee.{Float, nan, inf, fin, Format, binary32, prec, emax, low, up, down, units, odd, round, fits, le, lt, neg, div, mul, toSigned}
 use lib.Ieee.Digits.{back}
 use lib.Ieee.Fits.{up-pos, down-pos, and-l, and-r, round-is}
 use lib.Ieee.Exact.{HasValue, odd-sign, round-exact}
 use lib.Ieee.Back.{round-whole}
-use lib.Ieee.Order.{round-mono, kept, drop, le-of-values}
-use lib.Ieee.Scale.{round-same, grid}
+use lib.Ieee.Order.{round-mono, kept, drop}
+use lib.Ieee.Scale.{grid}
 use lib.Ieee.Positive.{through}
 use borrow.Author.Tests.{ne-eqb}
 

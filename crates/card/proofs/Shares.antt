@@ -1,22 +1,20 @@
--- The value of two opposing levels x and y under the greatest level g, which is n / 1 times a power of 2: it lies from -127 to 127,
--- is 0 where they are equal and full where one is g and the other 0, and changes only its sign where they are swapped.
+-- The value of two opposing levels x and y under the greatest level g, which is n * 2 ^ k: its share lies from -1 to 1, so that it lies from -127 to 127;
+-- it is 0 where they are equal and full where one is g and the other 0, and changes only its sign where they are swapped.
 use mathlib.Core.Path.{_≡_, refl, sym, ap, _∙_, subst}
 use mathlib.Core.Logic.{_⊎_, inl, inr}
-use mathlib.Core.Bool.{Bool, true, false, not, _&&_, _||_, cond, true≢false}
-use Prim.Native.Nat.{ℕ, zero, suc, _+_, _-_, _*_, _^_, _≤_, _<_}
+use mathlib.Core.Bool.{Bool, true, false, not, _&&_, _||_, true≢false}
+use Prim.Native.Nat.{ℕ, _+_, _-_, _*_, _≤_, _<_}
 use native.Mathlib.Nat.{le-trans, le-of-eq, le-of-lt, le-antisymm, lt-irrefl, mul-comm, zero-mul, mul-pos, mul-le-mul-right, le-of-mul-le-mul-right, eq-zero-or-pos}
 use native.Mathlib.Omega.{arith}
-use lib.IntN.{ℤ, pos, negsuc, negℤ}
+use lib.IntN.{ℤ, pos, negℤ}
 use lib.Dec.{T, ltb, eqb, ltb→lt, lt→ltb, nltb→le, eqb→eq}
-use lib.Signed.{_≤ℤ_}
-use lib.Ieee.{Float, nan, inf, fin, Format, binary32, up, down, round, sub, div, mul, neg, le, lt, fits, toSigned}
+use lib.Ieee.{Float, nan, inf, fin, binary32, up, down, round, sub, div, mul, neg, le, fits, toSigned}
 use lib.Ieee.Fits.{down-pos, up-pos, and-l, and-i, eq→eqb}
 use lib.Ieee.Exact.{HasValue}
-use lib.Ieee.Order.{le-of-values}
-use lib.Ieee.Positive.{num, den, den-pos, positive, first-pos}
+use lib.Ieee.Positive.{num, den, den-pos, first-pos}
 use lib.Ieee.Scale.{round-same}
-use Rattle.card.proofs.Rounding.{Within, unrounded, round-within, neg-round, div-is, mul-is, div-within, mul-within, cut-neg, cut-within, le-out}
-use Rattle.card.proofs.Fractions.{Level, Same, gap, Sided, Difference, difference}
+use Rattle.card.proofs.Rounding.{Within, unrounded, round-within, neg-round, div-is, mul-is, div-within, mul-within, cut-neg, le-out}
+use Rattle.card.proofs.Fractions.{Level, Same, gap, Sided, difference}
 
 -- 127 times x, without the fraction
 abbrev S : Float → ℤ
@@ -88,9 +86,6 @@ gap-same true a b c a' b' c' h h' p q =
 -- a / c ≤ b / c where a' / c' ≤ b' / c'
 carried : (a b c a' b' c' : ℕ) → 0 < c' → a' ≤ b' → a * c' ≡ a' * c → b * c' ≡ b' * c → a ≤ b
 carried a b c a' b' c' C h p q = le-of-mul-le-mul-right {k = c'} (le-trans (le-of-eq p) (le-trans (mul-le-mul-right c h) (le-of-eq (sym q)))) C
-
-crossed : (x y u v dx dy du dv : ℕ) → x * du ≡ u * dx → (x * dy) * (du * dv) ≡ (u * dv) * (dx * dy)
-crossed x y u v dx dy du dv h = omega (arith, ap (λ (k : ℕ). k * (dy * dv)) h)
 
 -- ---- two opposing levels under the greatest
 

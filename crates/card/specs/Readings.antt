@@ -7,7 +7,7 @@ use lib.Signed.{_≤ℤ_}
 use lib.Ieee.{Float, neg, eq, lt}
 use Rattle.std.specs.Floats.{most}
 use Rattle.std.specs.declared.result.Result.{Result}
-use Rattle.std.specs.declared.result.Result.the-variants.{Ok, Err}
+use Rattle.std.specs.declared.result.Result.the-variants.{Ok}
 use Rattle.refusal.specs.declared.Refusal.{Refusal}
 use Rattle.refusal.specs.declared.Refusal.the-variants.{ReadingOutOfRange}
 use Rattle.refusal.specs.Answer.{refused-when}

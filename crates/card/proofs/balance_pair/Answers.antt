@@ -1,5 +1,4 @@
-use mathlib.Core.Path.{_≡_, sym, _∙_, subst}
-use lib.IntN.{ℤ}
+use mathlib.Core.Path.{sym, _∙_, subst}
 use mir.Syntax.{w8}
 use mir.ValLaws.{toZ-ofZ}
 use Rattle.card.specs.declared.Reading.the-variants.{Balance}
