@@ -1,0 +1,4 @@
+mod Fractions
+mod Pairs
+mod Rounding
+mod Shares
