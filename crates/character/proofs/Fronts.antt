@@ -156,23 +156,17 @@ front-enquiry xs =
     (λ n _. or-from _ _ (ne-eqb _ 5 n) refl)
 
 -- ---- one step of the reader, which takes the part of the text from its place on
-pub record Stepped (text : List ℕ) (place n : ℕ) (i : Item) : Type 0 where
-  pub item : Some (record { place = place; item = i }) ≡ standing text place
-  pub within : place + n ≤ length text
-  pub some : 0 < n
-
-pub stepped : (text part : List ℕ) (place n : ℕ) (i : Item) → part ≡ drop place text → place < length text
-    → i ≡ front-item (getD part 0 0) part → n ≡ length (octets-of i) → Stepped text place n i
-stepped text part place n i p l e m =
+pub stepped : (text part : List ℕ) (place : ℕ) (i : Item) → part ≡ drop place text → place < length text → i ≡ front-item (getD part 0 0) part
+    → (Some (record { place = place; item = i }) ≡ standing text place) × (place + length (octets-of i) ≤ length text) × (0 < length (octets-of i))
+stepped text part place i p l e =
     let here : 0 < length part = omega (arith, ap length p, length-drop place text) in
     let first : getD part 0 0 ≡ getD text place 0 = ap (λ xs. getD xs 0 0) p ∙ getD-drop place text 0 0 ∙ ap (λ k. getD text k 0) (add-zero place) in
     let f : i ≡ front-item (getD text place 0) (drop place text) = e ∙ (λ k. front-item (first k) (p k)) in
-    let s : part ≡ octets-of i ++ drop (length (octets-of i)) part = subst (λ j. part ≡ octets-of j ++ drop (length (octets-of j)) part) (sym e) (front-split part here) in
-    record {
-      item = (λ k. Some (record { place = place; item = f k })) ∙ sym (cond-true _ _ _ (lt-ltb place (length text) l));
-      within = omega (arith, ap length p, length-drop place text, ap length s, length-append (octets-of i) (drop (length (octets-of i)) part));
-      some = omega (arith, octets-some i);
-    }
+    let s : part ≡ octets-of i ++ drop (length (octets-of i)) part = subst (λ j. part ≡ octets-of j ++ drop (length (octets-of j)) part) (sym e) (front-split part here) in (
+      (λ k. Some (record { place = place; item = f k })) ∙ sym (cond-true _ _ _ (lt-ltb place (length text) l)),
+      omega (arith, ap length p, length-drop place text, ap length s, length-append (octets-of i) (drop (length (octets-of i)) part)),
+      octets-some i,
+    )
 
 -- what stands at a place stands below the end, and is the item at the front of what follows
 abbrev Here : List ℕ → ℕ → Placed

@@ -11,8 +11,9 @@ use Rattle.std.specs.Options.{Cases}
 use Rattle.std.specs.Reads.{NoChar}
 use Rattle.std.specs.declared.option.Option.{Option}
 use Rattle.character.specs.declared.Item.{Item}
+use Rattle.character.specs.declared.Placed.{Placed}
 use Rattle.character.specs.declared.Tally.{Tally}
-use Rattle.character.specs.Reader.{is-enquiry, is-idle, is-character, is-broken}
+use Rattle.character.specs.Reader.{octets-of, is-enquiry, is-idle, is-character, is-broken}
 
 -- an octet that may stand third or fourth
 abbrev pub Tail : ℕ → Type 0
@@ -33,6 +34,10 @@ Second first b = (least-second first ≤ b) × (b ≤ greatest-second first)
 -- the octets begin with the encoding of the character that was found, or of none where none was
 abbrev pub Found : List ℕ → Option ℕ → Type 0
 Found octets r = Cases r (NoChar octets) (λ c. (scalar c ≡ true) × (octets ≡ encode c ++ drop (length (encode c)) octets))
+
+-- what came ends within so many octets, and takes one or more
+abbrev pub Within : ℕ → ℕ → Option Placed → Type 0
+Within n place r = Cases r (Unit {0}) (λ x. (place + length (octets-of (x .item)) ≤ n) × (0 < length (octets-of (x .item))))
 
 -- a tally with one item more
 abbrev pub one-more : Tally → Item → Tally

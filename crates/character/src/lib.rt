@@ -4,8 +4,8 @@ ghost use lib.Dec.{ltb};
 ghost use lib.ListN.{length, getD};
 ghost use Prim.Native.Nat.{_-_, _<_};
 ghost use mathlib.Core.List.{List};
-ghost use Rattle.character.specs.Reader.{Next, Reading, front-item, octets-of, tally-of, holds-enquiry};
-ghost use Rattle.character.specs.Forms.{Room, one-more};
+ghost use Rattle.character.specs.Reader.{Next, Reading, standing, front-item, octets-of, tally-of, holds-enquiry};
+ghost use Rattle.character.specs.Forms.{Room, Within, one-more};
 ghost use Rattle.character.specs.declared.Placed.{Placed as PlacedItem};
 
 mod decoder;
@@ -77,6 +77,18 @@ fn front(octets: &[u8]) -> Item
     }
 }
 
+// What stands at a place.
+fn read_at(text: &[u8], place: usize) -> Option<Placed>
+    ensures value { λ r. ⌜ r ≡ standing (now (text .entry)) place ⌝ }
+    ensures within { λ r. ⌜ Within (length (now (text .entry))) place r ⌝ }
+{
+    if place >= text.len() {
+        return None;
+    }
+    let item = front(&text[place..]);
+    Some(Placed { place, item })
+}
+
 pub impl<'a> Iterator for Characters<'a> as CharactersIterator {
     type Item = Placed;
 
@@ -87,14 +99,9 @@ pub impl<'a> Iterator for Characters<'a> as CharactersIterator {
     ghost left = { λ s. length (s .text .now) - s .place };
 
     fn next(&mut self) -> Option<Placed> {
-        let place = self.place;
-        let text = self.text;
-        if place >= text.len() {
-            return None;
-        }
-        let item = front(&text[place..]);
-        self.place = place + item.octets();
-        Some(Placed { place, item })
+        let placed = read_at(self.text, self.place)?;
+        self.place += placed.item.octets();
+        Some(placed)
     }
 }
 
@@ -135,7 +142,8 @@ impl Tally {
 
     // Reads a whole text and counts its items.
     pub fn of(text: &[u8]) -> Tally
-        ensures { λ r. ⌜ ((items : List PlacedItem) × Reading (now (text .entry)) items × (r ≡ tally-of items)) ⌝ }
+        ensures items { λ r. ⌜ ((items : List PlacedItem) × Reading (now (text .entry)) items × (r ≡ tally-of items)) ⌝ }
+        ensures enquiry { λ r. ⌜ holds-enquiry (now (text .entry)) ≡ ltb 0 (r .enquiries) ⌝ }
     {
         let mut tally = Tally {
             enquiries: 0,
@@ -152,8 +160,7 @@ impl Tally {
 
 // Whether one of a text's items is an enquiry.
 pub fn holds_enquiry(text: &[u8]) -> bool
-    ensures value { λ r. ⌜ r ≡ holds-enquiry (now (text .entry)) ⌝ }
-    ensures items { λ r. ⌜ ((items : List PlacedItem) × Reading (now (text .entry)) items × (r ≡ ltb 0 (tally-of items .enquiries))) ⌝ }
+    ensures { λ r. ⌜ r ≡ holds-enquiry (now (text .entry)) ⌝ }
 {
     Tally::of(text).enquiries > 0
 }

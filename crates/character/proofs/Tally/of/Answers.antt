@@ -1,4 +1,5 @@
 use mathlib.Core.Path.{_≡_, sym, ap, subst, _∙_}
+use lib.Dec.{ltb}
 use native.Mathlib.Omega.{arith}
 use Rattle.character.specs.Forms.{Room, one-more}
 use Rattle.character.proofs.Runs.{reading, room, tally-push}
@@ -21,4 +22,5 @@ returns c =
     let b = c .into-iter-placed-iterator .ensures .becomes in
     let e : s .text .now ≡ c .args .text .now = ap (λ u. u .text .now) b ∙ c .new-placed-items .ensures .text in
     let z : s .place ≡ 0 = ap (λ u. u .place) b ∙ c .new-placed-items .ensures .place in
-    (c .loop-placed .yielded, reading (c .args .text .now) (c .loop-placed .yielded) s e z (c .next .last .self, (c .loop-placed .placed-iterator, c .loop-placed .yielded-by, c .in-None .ensures tt .steps)), c .loop-placed .inv .2)
+    let r = reading (c .args .text .now) (c .loop-placed .yielded) s e z (c .next .last .self, (c .loop-placed .placed-iterator, c .loop-placed .yielded-by, c .in-None .ensures tt .steps)) in
+    record { items = (c .loop-placed .yielded, r, c .loop-placed .inv .2); enquiry = r .enquiries ∙ ap (λ t. ltb 0 (t .enquiries)) (sym (c .loop-placed .inv .2)) }
