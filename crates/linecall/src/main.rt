@@ -1,5 +1,12 @@
 // Runs two lines through a call each: one whose far end answers, and one that stays silent for long.
 // Prints what happened, the items of each burst, what was wanted, how each due was settled, and the state.
+ghost use mathlib.Core.Bool.{cond};
+ghost use mathlib.Core.Path.{_≡_};
+ghost use lib.Chars.{codes};
+ghost use Rattle.std.specs.declared.option.Option.the-variants.{Some, None};
+ghost use Rattle.character.specs.Reader.{holds-enquiry};
+ghost use Rattle.negotiation.specs.declared.State.the-variants.{Known as KnownLine};
+ghost use Rattle.negotiation.specs.Transitions.{calls-for-one, is-known, settled};
 use character::Characters;
 use character::CharactersIterator;
 use character::Item;
@@ -21,7 +28,9 @@ fn show_state(rt: &LibcRuntime, line: &Line) -> io::Result<()> {
     }
 }
 
-fn waits(waiting: bool) -> &'static str {
+fn waits(waiting: bool) -> &'static str
+    ensures { λ r. ⌜ now r ≡ cond waiting (codes "text waits") (codes "no text waits") ⌝ }
+{
     if waiting {
         "text waits"
     } else {
@@ -56,7 +65,10 @@ fn show_items(rt: &LibcRuntime, burst: &[u8]) -> io::Result<()> {
 }
 
 // What is sent for a burst that was heard: each due is settled before anything else can fail.
-fn acknowledge(line: &mut Line, burst: &[u8], waiting: bool) -> Option<Acknowledgement> {
+fn acknowledge(line: &mut Line, burst: &[u8], waiting: bool) -> Option<Acknowledgement>
+    ensures after { λ _. ⌜ now (line .exit) .state ≡ KnownLine ⌝ }
+    ensures value { λ r. ⌜ r ≡ cond (calls-for-one (holds-enquiry (now (burst .entry))) (is-known (now (line .entry) .state))) (Some (settled waiting)) None ⌝ }
+{
     match line.hear(burst) {
         Some(due) => {
             let sent = due.settle(waiting);

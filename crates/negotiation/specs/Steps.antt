@@ -4,11 +4,18 @@ use mathlib.Core.Bool.{Bool, cond, not, _&&_}
 use mathlib.Core.List.{List, [], _∷_}
 use Prim.Native.Nat.{ℕ, _+_, _^_, _<_}
 use Rattle.character.specs.Reader.{holds-enquiry}
+use Rattle.negotiation.specs.declared.Acknowledgement.{Acknowledgement}
+use Rattle.negotiation.specs.declared.Acknowledgement.the-variants.{Idle, Text}
 use Rattle.negotiation.specs.declared.State.the-variants.{Known}
 use Rattle.negotiation.specs.declared.Call.{Call}
 use Rattle.negotiation.specs.declared.Call.the-variants.{Tick, Hear}
 use Rattle.negotiation.specs.declared.Played.{Played}
 use Rattle.negotiation.specs.Transitions.{ticked, starts-try, is-known, calls-for-one}
+
+-- one acknowledgement more
+abbrev pub counted : Played → Acknowledgement → Played
+counted p Idle = record { state = p .state; tries = p .tries; idles = p .idles + 1; texts = p .texts }
+counted p Text = record { state = p .state; tries = p .tries; idles = p .idles; texts = p .texts + 1 }
 
 -- one call more
 abbrev pub stepped : Played → Call → Played

@@ -4,7 +4,7 @@ ghost use mathlib.Core.Path.{_≡_};
 ghost use Rattle.character.specs.Reader.{holds-enquiry};
 ghost use Rattle.negotiation.specs.declared.State.the-variants.{New as NewLine, Asking as AskingLine, Known as KnownLine};
 ghost use Rattle.negotiation.specs.Calls.{Outcome};
-ghost use Rattle.negotiation.specs.Steps.{Room, stepped};
+ghost use Rattle.negotiation.specs.Steps.{Room, counted, stepped};
 ghost use Rattle.negotiation.specs.Transitions.{ticked, starts-try, wanted, is-known, calls-for-one, due-of, settled};
 use character::holds_enquiry;
 
@@ -157,6 +157,17 @@ pub struct Played {
 }
 
 impl Played {
+    // One acknowledgement more.
+    fn count(&mut self, sent: Acknowledgement)
+        requires { ⌜ Room (now self) ⌝ }
+        ensures { λ _. ⌜ now (self .exit) ≡ counted (now (self .entry)) sent ⌝ }
+    {
+        match sent {
+            Acknowledgement::Idle => self.idles += 1,
+            Acknowledgement::Text => self.texts += 1,
+        }
+    }
+
     // One call more.
     fn with(self, call: &Call) -> Played
         requires { ⌜ Room self ⌝ }
@@ -174,10 +185,7 @@ impl Played {
             },
             Call::Hear { burst, waiting } => {
                 if let Some(due) = line.hear(burst) {
-                    match due.settle(*waiting) {
-                        Acknowledgement::Idle => played.idles += 1,
-                        Acknowledgement::Text => played.texts += 1,
-                    }
+                    played.count(due.settle(*waiting));
                 }
             }
         }
