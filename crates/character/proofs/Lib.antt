@@ -1,0 +1,3 @@
+mod Encodings
+mod Fronts
+mod Runs
