@@ -1,0 +1,6 @@
+pub mod Totals
+pub mod Paths
+pub mod Texts
+pub mod Orders
+pub mod Separation
+pub mod Correction
