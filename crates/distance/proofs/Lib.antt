@@ -4,3 +4,5 @@ pub mod Texts
 pub mod Orders
 pub mod Separation
 pub mod Correction
+pub mod Traces
+pub mod Reading

@@ -6,7 +6,7 @@ use mathlib.Core.Bool.{Bool, true, false, cond}
 use mathlib.Core.List.{List, [], _∷_, map}
 use mathlib.Core.Path.{_≡_}
 use Prim.Native.Nat.{ℕ, zero, suc, _+_, _*_, _/_, _%_, _^_, _<_, _≤_}
-use lib.Dec.{eqb}
+use lib.Dec.{eqb, ltb}
 use lib.ListN.{getD}
 use Rattle.code.specs.Coder.{bit, before, sums, parity}
 use Rattle.distance.specs.Nearest.{total}
@@ -73,3 +73,34 @@ back s decisions = 2 * (s % 8) + decisions / 2 ^ s % 2
 unfoldable pub traced : List ℕ → ℕ → ℕ → ℕ → Bool
 traced work zero s i = eqb (s / 2 ^ i % 2) 1
 traced work (suc k) s i = put (traced work k (back s (getD work k 0))) (four k) (eqb (s / 8) 1) i
+
+-- after k steps the decisions lead from each state to the best path into it, and the metrics are what these paths cost
+abbrev pub Survivors : (ℕ → Bool → ℕ) → ℕ → List ℕ → List ℕ → Type 0
+Survivors cost k work metrics =
+    (s : ℕ) → s < 16 → Best cost k (traced work k s) × (getD metrics s 0 ≡ path-cost cost k (traced work k s))
+
+-- the lowest bit of a number
+abbrev pub odd : ℕ → Bool
+odd n = eqb (n % 2) 1
+
+-- what the four coded bits that a number below 16 spells cost at step k, the first counting 1
+abbrev pub label-cost : (ℕ → Bool → ℕ) → ℕ → ℕ → ℕ
+label-cost cost k q = four-cost cost k (odd q) (odd (q / 2)) (odd (q / 4)) (odd (q / 8))
+
+-- the five bits that a number below 32 spells, the newest first and counting 16
+abbrev pub bits-of : ℕ → List Bool
+bits-of v = odd (v / 16) ∷ odd (v / 8) ∷ odd (v / 4) ∷ odd (v / 2) ∷ odd v ∷ []
+
+-- the number that the coded bits of a branch spell: v is the state before it, plus 16 where the new bit is 1
+abbrev pub label : ℕ → ℕ
+label v = one (sent (bits-of v) 0) + 2 * one (sent (bits-of v) 1) + 4 * one (sent (bits-of v) 2) + 8 * one (sent (bits-of v) 3)
+
+-- what it costs to come to state s where the bit d drops out
+abbrev pub candidate : List ℕ → List ℕ → ℕ → ℕ → ℕ
+candidate metrics costs s d = getD metrics (2 * (s % 8) + d) 0 + getD costs (label (2 * (s % 8) + d + 16 * (s / 8))) 0
+
+-- each state's new metric is the cheaper of its two candidates, and its decision bit says which one; a tie goes to 0
+abbrev pub Chosen : List ℕ → List ℕ → List ℕ → ℕ → ℕ → Type 0
+Chosen metrics costs new decisions s =
+    (getD new s 0 ≡ cond (ltb (candidate metrics costs s 1) (candidate metrics costs s 0)) (candidate metrics costs s 1) (candidate metrics costs s 0))
+        × (decisions / 2 ^ s % 2 ≡ one (ltb (candidate metrics costs s 1) (candidate metrics costs s 0)))
