@@ -6,3 +6,5 @@ pub mod Separation
 pub mod Correction
 pub mod Traces
 pub mod Reading
+pub mod Decisions
+pub mod Labels
