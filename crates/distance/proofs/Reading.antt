@@ -6,12 +6,12 @@ use mathlib.Core.List.{List, [], _∷_}
 use mathlib.Core.Path.{_≡_, refl, sym, ap, subst, _∙_}
 use Prim.Native.Nat.{ℕ, zero, suc, _+_, _-_, _*_, _/_, _%_, _^_, _<_, _≤_}
 use native.Mathlib.Omega.{arith}
-use lib.Dec.{eqb, lit<}
+use lib.Dec.{eqb, lit<, lit≤}
 use Rattle.std.proofs.shelf.Tests.{eqb-true, cases-lt, cases-order}
 use lib.ListN.{length, getD, replicate, length-replicate, getD-replicate, List·getD-eq-default}
 use Rattle.distance.specs.Nearest.{total, Octets, distance, Earlier, Nearest}
 use Rattle.distance.specs.Apart.{Heard, HeardWithin}
-use Rattle.distance.specs.Trellis.{four, one, path, state, window, sent, branch, begin-cost, path-cost, value, Best, put, back, traced}
+use Rattle.distance.specs.Trellis.{four, one, path, state, window, sent, branch, begin-cost, path-cost, value, Best, octet, traced, Survivors, label-cost, odd}
 use Rattle.distance.proofs.Totals.{total-bound}
 use Rattle.distance.proofs.Paths.{Agree, one-le, one-inj, state-agree, cost-agree, value-agree}
 use Rattle.distance.proofs.Texts.{cost-of-text, octet-of, path-beyond}
@@ -33,6 +33,30 @@ pub cost-bound : (cost : ℕ → Bool → ℕ) (b : ℕ) → ((i : ℕ) (x : Boo
     → (path-cost cost k c ≤ begin-cost (state 0 c) + k * (4 * b)) × (begin-cost (state 0 c) ≤ path-cost cost k c)
 unfolding path-cost
 cost-bound cost b h k c = let t = total-bound k (4 * b) (λ j. branch cost j c) (λ j. branch-bound cost b h j c) in (omega arith, omega arith)
+
+begin-le : (s : ℕ) → begin-cost s ≤ 2 ^ 30
+begin-le s = go (eqb s 0)
+  where
+    go : (t : Bool) → cond t 0 (2 ^ 30) ≤ 2 ^ 30
+    go true = lit≤ tt
+    go false = lit≤ tt
+
+-- a metric fits 31 bits, and what the coded bits of a step cost 20
+pub metric-small : (cost : ℕ → Bool → ℕ) → ((i : ℕ) (x : Bool) → cost i x ≤ 65535) → (k : ℕ) → k ≤ 1924 → (work metrics : List ℕ)
+    → Survivors cost k work metrics → (s : ℕ) → s < 16 → getD metrics s 0 < 2 ^ 31
+metric-small cost h k l work metrics survivors s g =
+    let e = survivors s g .1 in
+    let b = cost-bound cost 65535 h k (traced work k s) .0 in
+    let u = begin-le (state 0 (traced work k s)) in
+    omega arith
+
+pub label-cost-small : (cost : ℕ → Bool → ℕ) → ((i : ℕ) (x : Bool) → cost i x ≤ 65535) → (k q : ℕ) → label-cost cost k q < 2 ^ 20
+label-cost-small cost h k q =
+    let h0 = h (4 * k) (odd q) in
+    let h1 = h (4 * k + 1) (odd (q / 2)) in
+    let h2 = h (4 * k + 2) (odd (q / 4)) in
+    let h3 = h (4 * k + 3) (odd (q / 8)) in
+    omega arith
 
 -- a path that costs little began in the zero state
 begin-zero : (s : ℕ) → begin-cost s < 2 ^ 30 → s ≡ 0
@@ -80,10 +104,6 @@ text-ends m text e =
   where
     zeros : (a b c d : Bool) → a ≡ false → b ≡ false → c ≡ false → d ≡ false → one a + 2 * one b + 4 * one c + 8 * one d ≡ 0
     zeros a b c d p q r s = rw (p, q, r, s) refl
-
--- the octet at i that a path holds
-abbrev pub octet : ℕ → (ℕ → Bool) → ℕ
-octet i c = state (four (8 * i)) c + 16 * state (four (four (8 * i))) c
 
 -- a path that begins and ends in the zero state is the path of the text that it holds
 module _ (m : ℕ) (c : ℕ → Bool) (text : List ℕ) (octets : Octets m text) (begun : state 0 c ≡ 0) (ended : state (four (8 * m)) c ≡ 0)

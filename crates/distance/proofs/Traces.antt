@@ -7,10 +7,10 @@ use mathlib.Core.Path.{_≡_, refl, sym, ap, subst, _∙_}
 use Prim.Native.Nat.{ℕ, zero, suc, _+_, _-_, _*_, _/_, _%_, _^_, _<_, _≤_}
 use native.Mathlib.Nat.{add-zero}
 use native.Mathlib.Omega.{arith}
-use lib.Dec.{eqb, ltb}
-use lib.ListN.{length, getD}
+use lib.Dec.{eqb, ltb, eqb·suc-zero}
+use lib.ListN.{length, getD, replicate, getD-replicate}
 use Rattle.std.proofs.shelf.Tests.{eq-eqb, ne-eqb, ltb-true, ltb-false, cond-true, cond-false}
-use Rattle.distance.specs.Trellis.{four, one, state, begin-cost, window, sent, four-cost, branch, path-cost, value, Best, put, back, traced, Survivors, odd, label-cost, bits-of, label, candidate, Chosen}
+use Rattle.distance.specs.Trellis.{four, one, state, begin-cost, window, sent, four-cost, branch, path-cost, value, Best, put, back, four-back, octet, traced, Survivors, odd, label-cost, bits-of, label, candidate, Chosen}
 use Rattle.distance.proofs.Paths.{Agree, one-le, one-inj, state-agree, cost-agree, best-agree, cost-suc, stays, turns}
 
 pub put-same : (c : ℕ → Bool) (n : ℕ) (b : Bool) → put c n b n ≡ b
@@ -220,3 +220,55 @@ begins cost work metrics h s l =
     let e = traced-state work 0 s l in
     (λ y p. let b : begin-cost (state 0 y) ≡ begin-cost (state 0 (traced work 0 s)) = ap begin-cost p in (omega arith, λ _. omega arith),
      h s l ∙ (ap begin-cost (sym e) ∙ sym (add-zero _)))
+
+-- the metrics before the first step
+pub begin-metrics : (s : ℕ) → s < 16 → getD {A = ℕ} (0 ∷ replicate 15 (2 ^ 30)) s 0 ≡ begin-cost s
+begin-metrics zero h = refl
+begin-metrics (suc s) h = getD-replicate 15 s (2 ^ 30) 0 (omega arith) ∙ sym (ap (λ t. cond t 0 (2 ^ 30)) (eqb·suc-zero s))
+
+-- four steps back: the same path, below its last four bits
+pub four-traced : (work : List ℕ) (k s : ℕ) → Agree (four k) (traced work (four k) s) (traced work k (four-back work k s))
+four-traced work k s i l =
+    let e3 : suc (suc (suc k)) ≡ k + 3 = omega arith in
+    let e2 : suc (suc k) ≡ k + 2 = omega arith in
+    let e1 : suc k ≡ k + 1 = omega arith in
+    let s3 : back s (getD work (suc (suc (suc k))) 0) ≡ back s (getD work (k + 3) 0) = ap (λ n. back s (getD work n 0)) e3 in
+    let b3 = back s (getD work (k + 3) 0) in
+    let s2 : back b3 (getD work (suc (suc k)) 0) ≡ back b3 (getD work (k + 2) 0) = ap (λ n. back b3 (getD work n 0)) e2 in
+    let b2 = back b3 (getD work (k + 2) 0) in
+    let s1 : back b2 (getD work (suc k) 0) ≡ back b2 (getD work (k + 1) 0) = ap (λ n. back b2 (getD work n 0)) e1 in
+    let b1 = back b2 (getD work (k + 1) 0) in
+    traced-back work (suc (suc (suc k))) s i (omega arith) ∙ (ap (λ n. traced work (suc (suc (suc k))) n i) s3
+    ∙ (traced-back work (suc (suc k)) b3 i (omega arith) ∙ (ap (λ n. traced work (suc (suc k)) n i) s2
+    ∙ (traced-back work (suc k) b2 i (omega arith) ∙ (ap (λ n. traced work (suc k) n i) s1
+    ∙ traced-back work k b1 i l)))))
+
+-- the way back over one octet: eight steps, whose two states are the octet
+module _ (work : List ℕ) (c : ℕ → Bool) (i o s high low : ℕ) (next : i ≡ suc o)
+    (agree : Agree (four (four (8 * i))) c (traced work (four (8 * i)) s))
+    (high-is : high ≡ four-back work (8 * o + 8) s) (low-is : low ≡ four-back work (8 * o + 4) high) where
+  upper : Agree (four (four (four (8 * o)))) c (traced work (four (four (8 * o))) high)
+  upper j l =
+      let e : four (8 * i) ≡ four (four (four (8 * o))) = omega arith in
+      let k : 8 * o + 8 ≡ four (four (8 * o)) = omega arith in
+      agree j (omega arith) ∙ (ap (λ n. traced work n s j) e
+      ∙ (four-traced work (four (four (8 * o))) s j l ∙ ap (λ t. traced work (four (four (8 * o))) t j) (sym (high-is ∙ ap (λ n. four-back work n s) k))))
+
+  pub octet-agree : Agree (four (four (8 * o))) c (traced work (four (8 * o)) low)
+  octet-agree j l =
+      let k : 8 * o + 4 ≡ four (8 * o) = omega arith in
+      upper j (omega arith) ∙ (four-traced work (four (8 * o)) high j l ∙ ap (λ t. traced work (four (8 * o)) t j) (sym (low-is ∙ ap (λ n. four-back work n high) k)))
+
+  high-below : high < 16
+  high-below = subst (λ n. n < 16) (sym high-is) (back-below _ (getD work (8 * o + 8) 0))
+
+  pub low-below : low < 16
+  low-below = subst (λ n. n < 16) (sym low-is) (back-below _ (getD work (8 * o + 4) 0))
+
+  pub octet-back : low + 16 * high ≡ octet o c
+  octet-back =
+      let a = state-agree (four (four (8 * o))) c (traced work (four (four (8 * o))) high) upper in
+      let b = state-agree (four (8 * o)) c (traced work (four (8 * o)) low) octet-agree in
+      let p = traced-state work (four (four (8 * o))) high high-below in
+      let q = traced-state work (four (8 * o)) low low-below in
+      omega arith

@@ -69,6 +69,11 @@ put c n b i = cond (eqb i n) b (c i)
 abbrev pub back : ℕ → ℕ → ℕ
 back s decisions = 2 * (s % 8) + decisions / 2 ^ s % 2
 
+-- four states back: the state before the four steps from k on, where the state after them is s
+abbrev pub four-back : List ℕ → ℕ → ℕ → ℕ
+four-back work k s =
+    back (back (back (back s (getD work (k + 3) 0)) (getD work (k + 2) 0)) (getD work (k + 1) 0)) (getD work k 0)
+
 -- the path that the decisions of the steps below k lead back to from state s
 unfoldable pub traced : List ℕ → ℕ → ℕ → ℕ → Bool
 traced work zero s i = eqb (s / 2 ^ i % 2) 1
@@ -104,3 +109,7 @@ abbrev pub Chosen : List ℕ → List ℕ → List ℕ → ℕ → ℕ → Type 
 Chosen metrics costs new decisions s =
     (getD new s 0 ≡ cond (ltb (candidate metrics costs s 1) (candidate metrics costs s 0)) (candidate metrics costs s 1) (candidate metrics costs s 0))
         × (decisions / 2 ^ s % 2 ≡ one (ltb (candidate metrics costs s 1) (candidate metrics costs s 0)))
+
+-- the octet at i that a path holds: its lower four bits are the state after step 8i + 4, its upper four that after 8i + 8
+abbrev pub octet : ℕ → (ℕ → Bool) → ℕ
+octet i c = state (four (8 * i)) c + 16 * state (four (four (8 * i))) c

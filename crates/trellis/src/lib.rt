@@ -9,7 +9,7 @@ ghost use Rattle.std.specs.Results.{isOk};
 ghost use Rattle.refusal.specs.Answer.{after};
 ghost use Rattle.distance.specs.Nearest.{Nearest, distance};
 ghost use Rattle.distance.specs.Apart.{Heard, HeardWithin};
-ghost use Rattle.distance.specs.Trellis.{Best, Chosen, back, label-cost, path-cost, state, four, traced};
+ghost use Rattle.distance.specs.Trellis.{Best, Chosen, back, four-back, label-cost, octet, path-cost, traced};
 ghost use Rattle.trellis.specs.Search.{search-answer};
 use code::check_length;
 use refusal::Refusal;
@@ -72,6 +72,7 @@ fn cheaper(first: u32, second: u32) -> (u32, bool)
 }
 
 // What a step leaves: the metric of each state, and its decision bit.
+#[derive(Drop)]
 struct Step {
     metrics: [u32; 16],
     decisions: u16,
@@ -102,4 +103,76 @@ fn advance(metrics: &[u32; 16], costs: &[u32; 16]) -> Step
         metrics: next,
         decisions: low + 256 * high,
     }
+}
+
+// The forward pass: writes the decisions of each step into `work`, and answers what the best path into the zero state
+// costs.
+fn forward<S: SoftBits>(source: &S, work: &mut [u16]) -> u32
+    requires { ⌜ length (now work) ≤ 1924 ⌝ }
+    ensures best { λ _. ⌜ Best (cost (now (source .entry))) (length (now (work .entry))) (traced (now (work .exit)) (length (now (work .entry))) 0) ⌝ }
+    ensures metric { λ r. ⌜ r ≡ path-cost (cost (now (source .entry))) (length (now (work .entry))) (traced (now (work .exit)) (length (now (work .entry))) 0) ⌝ }
+{
+    let mut metrics = [UNREACHED; 16];
+    metrics[0] = 0;
+    for step in 0..work.len() {
+        let costs = label_costs(source, step);
+        let next = advance(&metrics, &costs);
+        work[step] = next.decisions;
+        metrics = next.metrics;
+    }
+    metrics[0]
+}
+
+// The state before `state`, by the decision bit that it has among those of its step.
+fn step_back(state: usize, decisions: u16) -> usize
+    requires { ⌜ state < 16 ⌝ }
+    ensures { λ r. ⌜ r ≡ back state decisions ⌝ }
+{
+    2 * (state % 8) + ((decisions >> state) & 1) as usize
+}
+
+// The state before the four steps from `step` on.
+fn steps_back(work: &[u16], step: usize, state: usize) -> usize
+    requires { ⌜ step + 4 ≤ length (now work) ⌝ ∗ ⌜ state < 16 ⌝ }
+    ensures { λ r. ⌜ r ≡ four-back (now (work .entry)) step state ⌝ }
+{
+    let state = step_back(state, work[step + 3]);
+    let state = step_back(state, work[step + 2]);
+    let state = step_back(state, work[step + 1]);
+    step_back(state, work[step])
+}
+
+// The way back from the zero state: a state holds four bits of the text, so two of them make an octet.
+fn trace_back(work: &[u16], text: &mut [u8])
+    requires { ⌜ length (now work) ≡ 8 * length (now text) + 4 ⌝ }
+    ensures { λ _. ⌜ ((i : ℕ) → i < length (now (text .entry)) → getD (now (text .exit)) i 0 ≡ octet i (traced (now (work .entry)) (length (now (work .entry))) 0)) ⌝ }
+{
+    let mut state = 0;
+    for i in (0..text.len()).rev() {
+        let high = steps_back(work, 8 * i + 8, state);
+        let low = steps_back(work, 8 * i + 4, high);
+        text[i] = (low + 16 * high) as u8;
+        state = low;
+    }
+}
+
+// Searches for the text of m octets that lies nearest to what the source heard: of all strings of m octets the one that
+// costs least, and of equally cheap ones the one with the smaller octet at the last place where they differ. Writes it
+// into the first places of `text`, and answers its distance. It works in `work`, a place for each step.
+pub fn nearest_text<S: SoftBits>(source: &S, m: usize, text: &mut [u8], work: &mut [u16]) -> Result<u32, Refusal>
+    ensures answer { λ r. ⌜ r ≡ search-answer m (length (now (text .entry))) (length (now (work .entry))) (distance (cost (now (source .entry))) (take m (now (text .exit)))) ⌝ }
+    ensures memory { λ r. ⌜ now (text .exit) ≡ after r (take m (now (text .exit))) (now (text .entry)) ⌝ }
+    ensures working { λ r. ⌜ (length (now (work .exit)) ≡ length (now (work .entry))) × (isOk r ≡ false → now (work .exit) ≡ now (work .entry)) ⌝ }
+    ensures nearest { λ r. ⌜ (isOk r ≡ true → Nearest (cost (now (source .entry))) m (take m (now (text .exit)))) ⌝ }
+    ensures only { λ r. ⌜ (isOk r ≡ true → (other : List ℕ) → Nearest (cost (now (source .entry))) m other → take m (now (text .exit)) ≡ other) ⌝ }
+    ensures corrected { λ r. ⌜ (isOk r ≡ true → (sent : List ℕ) (heard : ℕ → Heard) → HeardWithin 15 (cost (now (source .entry))) m sent heard → take m (now (text .exit)) ≡ sent) ⌝ }
+{
+    check_length(m)?;
+    let steps = 8 * m + 4;
+    if text.len() < m || work.len() < steps {
+        return Err(Refusal::MemoryTooShort);
+    }
+    let distance = forward(source, &mut work[0..steps]);
+    trace_back(&work[0..steps], &mut text[0..m]);
+    Ok(distance)
 }

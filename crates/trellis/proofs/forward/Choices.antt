@@ -1,0 +1,6 @@
+use Rattle.distance.specs.Trellis.{Survivors}
+use Rattle.trellis.proofs.forward.Given as given
+
+-- the decisions so far lead back to the survivors
+abbrev pub Inv-loop-step : given.InvT-loop-step
+Inv-loop-step g l = Survivors (g .S·SoftBits .cost (l .source)) (l .step) (l .work) (l .metrics)
