@@ -16,6 +16,7 @@ use Rattle.distance.proofs.Totals.{total-bound}
 use Rattle.distance.proofs.Paths.{Agree, one-le, one-inj, state-agree, cost-agree, value-agree}
 use Rattle.distance.proofs.Texts.{cost-of-text, octet-of, path-beyond}
 use Rattle.distance.proofs.Correction.{corrects-fifteen}
+use Rattle.distance.proofs.Traces.{traced-state}
 use Rattle.distance.proofs.Orders.{value-four, value-earlier}
 
 -- the costs of the four coded bits of a step are bounded
@@ -192,6 +193,21 @@ module _ (cost : ℕ → Bool → ℕ) (bounded : (i : ℕ) (b : Bool) → cost 
       where
         ends-value : (y : ℕ → Bool) → state (four (8 * m)) y ≡ 0 → value (four (four (8 * m))) y ≡ value (four (8 * m)) y
         ends-value y e = value-four (four (8 * m)) y ∙ rw e (omega arith)
+
+-- what the two passes leave: the nearest text, and its distance
+pub found : (cost : ℕ → Bool → ℕ) → ((i : ℕ) (b : Bool) → cost i b ≤ 65535) → (m : ℕ) → m ≤ 240 → (work text : List ℕ) (n metric : ℕ)
+    → length work ≡ n → n ≡ 8 * m + 4 → length text ≡ m
+    → Best cost n (traced work n 0) → metric ≡ path-cost cost n (traced work n 0)
+    → ((i : ℕ) → i < m → getD text i 0 ≡ octet i (traced work (length work) 0))
+    → Nearest cost m text × (metric ≡ distance cost text)
+found cost bounded m short work text n metric long steps size best is held =
+    let e : n ≡ four (8 * m) = omega arith in
+    let c = traced work (four (8 * m)) 0 in
+    let b : Best cost (four (8 * m)) c = subst (λ k. Best cost k (traced work k 0)) e best in
+    let ended = traced-state work (four (8 * m)) 0 (lit< tt) in
+    let holding : (i : ℕ) → i < m → getD text i 0 ≡ octet i c = λ i l. held i l ∙ ap (λ k. octet i (traced work k 0)) (long ∙ e) in
+    (nearest cost bounded m short c b ended text size holding,
+     is ∙ (ap (λ k. path-cost cost k (traced work k 0)) e ∙ sym (its-distance cost bounded m short c b ended text size holding)))
 
 -- there is one nearest text only
 earlier-once : (a b : List ℕ) → Earlier a b → Earlier b a → ⊥

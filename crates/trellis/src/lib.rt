@@ -156,6 +156,17 @@ fn trace_back(work: &[u16], text: &mut [u8])
     }
 }
 
+// The search where the memory fits: both passes, over as many octets as `text` has places.
+fn search<S: SoftBits>(source: &S, text: &mut [u8], work: &mut [u16]) -> u32
+    requires { ⌜ length (now text) ≤ 240 ⌝ ∗ ⌜ length (now work) ≡ 8 * length (now text) + 4 ⌝ }
+    ensures nearest { λ _. ⌜ Nearest (cost (now (source .entry))) (length (now (text .entry))) (now (text .exit)) ⌝ }
+    ensures value { λ r. ⌜ r ≡ distance (cost (now (source .entry))) (now (text .exit)) ⌝ }
+{
+    let metric = forward(source, work);
+    trace_back(work, text);
+    metric
+}
+
 // Searches for the text of m octets that lies nearest to what the source heard: of all strings of m octets the one that
 // costs least, and of equally cheap ones the one with the smaller octet at the last place where they differ. Writes it
 // into the first places of `text`, and answers its distance. It works in `work`, a place for each step.
@@ -172,7 +183,5 @@ pub fn nearest_text<S: SoftBits>(source: &S, m: usize, text: &mut [u8], work: &m
     if text.len() < m || work.len() < steps {
         return Err(Refusal::MemoryTooShort);
     }
-    let distance = forward(source, &mut work[0..steps]);
-    trace_back(&work[0..steps], &mut text[0..m]);
-    Ok(distance)
+    Ok(search(source, &mut text[0..m], &mut work[0..steps]))
 }
