@@ -11,7 +11,7 @@ use Rattle.std.proofs.shelf.Tests.{eqb-true, cases-lt, cases-order}
 use lib.ListN.{length, getD, replicate, length-replicate, getD-replicate, List·getD-eq-default}
 use Rattle.distance.specs.Nearest.{total, Octets, distance, Earlier, Nearest}
 use Rattle.distance.specs.Apart.{Heard, HeardWithin}
-use Rattle.distance.specs.Trellis.{four, one, path, state, window, sent, branch, begin-cost, path-cost, value, Best, octet, traced, Survivors, label-cost, odd}
+use Rattle.distance.specs.Trellis.{four, one, path, state, window, sent, branch, begin-cost, path-cost, value, Best, octet, traced, Survivors, label-cost, odd, Bounded}
 use Rattle.distance.proofs.Totals.{total-bound}
 use Rattle.distance.proofs.Paths.{Agree, one-le, one-inj, state-agree, cost-agree, value-agree}
 use Rattle.distance.proofs.Texts.{cost-of-text, octet-of, path-beyond}
@@ -20,20 +20,20 @@ use Rattle.distance.proofs.Traces.{traced-state}
 use Rattle.distance.proofs.Orders.{value-four, value-earlier}
 
 -- the costs of the four coded bits of a step are bounded
-pub branch-bound : (cost : ℕ → Bool → ℕ) (b : ℕ) → ((i : ℕ) (x : Bool) → cost i x ≤ b) → (k : ℕ) (c : ℕ → Bool) → branch cost k c ≤ 4 * b
-branch-bound cost b h k c =
+branch-bound : (cost : ℕ → Bool → ℕ) (n b : ℕ) → Bounded cost n b → (k : ℕ) → k < n → (c : ℕ → Bool) → branch cost k c ≤ 4 * b
+branch-bound cost n b h k l c =
     let w = window k c in
-    let h0 = h (4 * k) (sent w 0) in
-    let h1 = h (4 * k + 1) (sent w 1) in
-    let h2 = h (4 * k + 2) (sent w 2) in
-    let h3 = h (4 * k + 3) (sent w 3) in
+    let h0 = h (4 * k) (omega arith) (sent w 0) in
+    let h1 = h (4 * k + 1) (omega arith) (sent w 1) in
+    let h2 = h (4 * k + 2) (omega arith) (sent w 2) in
+    let h3 = h (4 * k + 3) (omega arith) (sent w 3) in
     omega arith
 
--- what a path costs over k steps is bounded
-pub cost-bound : (cost : ℕ → Bool → ℕ) (b : ℕ) → ((i : ℕ) (x : Bool) → cost i x ≤ b) → (k : ℕ) (c : ℕ → Bool)
-    → (path-cost cost k c ≤ begin-cost (state 0 c) + k * (4 * b)) × (begin-cost (state 0 c) ≤ path-cost cost k c)
+-- what a path costs over n steps is bounded
+pub cost-bound : (cost : ℕ → Bool → ℕ) (n b : ℕ) → Bounded cost n b → (c : ℕ → Bool)
+    → (path-cost cost n c ≤ begin-cost (state 0 c) + n * (4 * b)) × (begin-cost (state 0 c) ≤ path-cost cost n c)
 unfolding path-cost
-cost-bound cost b h k c = let t = total-bound k (4 * b) (λ j. branch cost j c) (λ j. branch-bound cost b h j c) in (omega arith, omega arith)
+cost-bound cost n b h c = let t = total-bound n (4 * b) (λ j. branch cost j c) (λ j l. branch-bound cost n b h j l c) in (omega arith, omega arith)
 
 begin-le : (s : ℕ) → begin-cost s ≤ 2 ^ 30
 begin-le s = go (eqb s 0)
@@ -42,21 +42,22 @@ begin-le s = go (eqb s 0)
     go true = lit≤ tt
     go false = lit≤ tt
 
--- a metric fits 31 bits, and what the coded bits of a step cost 20
-pub metric-small : (cost : ℕ → Bool → ℕ) → ((i : ℕ) (x : Bool) → cost i x ≤ 65535) → (k : ℕ) → k ≤ 1924 → (work metrics : List ℕ)
+-- a metric fits 31 bits
+pub metric-small : (cost : ℕ → Bool → ℕ) (k : ℕ) → Bounded cost k 65535 → k ≤ 1924 → (work metrics : List ℕ)
     → Survivors cost k work metrics → (s : ℕ) → s < 16 → getD metrics s 0 < 2 ^ 31
-metric-small cost h k l work metrics survivors s g =
+metric-small cost k h l work metrics survivors s g =
     let e = survivors s g .1 in
-    let b = cost-bound cost 65535 h k (traced work k s) .0 in
+    let b = cost-bound cost k 65535 h (traced work k s) .0 in
     let u = begin-le (state 0 (traced work k s)) in
     omega arith
 
-pub label-cost-small : (cost : ℕ → Bool → ℕ) → ((i : ℕ) (x : Bool) → cost i x ≤ 65535) → (k q : ℕ) → label-cost cost k q < 2 ^ 20
-label-cost-small cost h k q =
-    let h0 = h (4 * k) (odd q) in
-    let h1 = h (4 * k + 1) (odd (q / 2)) in
-    let h2 = h (4 * k + 2) (odd (q / 4)) in
-    let h3 = h (4 * k + 3) (odd (q / 8)) in
+-- what the coded bits of a step cost fits 20 bits
+pub label-cost-small : (cost : ℕ → Bool → ℕ) (k : ℕ) → Bounded cost (k + 1) 65535 → (q : ℕ) → label-cost cost k q < 2 ^ 20
+label-cost-small cost k h q =
+    let h0 = h (4 * k) (omega arith) (odd q) in
+    let h1 = h (4 * k + 1) (omega arith) (odd (q / 2)) in
+    let h2 = h (4 * k + 2) (omega arith) (odd (q / 4)) in
+    let h3 = h (4 * k + 3) (omega arith) (odd (q / 8)) in
     omega arith
 
 -- a path that costs little began in the zero state
@@ -143,7 +144,7 @@ zero-octets m = (length-replicate {A = ℕ} m 0, λ k. ⊎-elim (λ l. rw (getD-
     past l = rw (List·getD-eq-default {A = ℕ} (replicate m 0) 0 l) (lit< tt)
 
 -- the best path into the zero state holds the nearest text
-module _ (cost : ℕ → Bool → ℕ) (bounded : (i : ℕ) (b : Bool) → cost i b ≤ 65535) (m : ℕ) (short : m ≤ 240) (c : ℕ → Bool)
+module _ (cost : ℕ → Bool → ℕ) (m : ℕ) (bounded : Bounded cost (four (8 * m)) 65535) (short : m ≤ 240) (c : ℕ → Bool)
     (best : Best cost (four (8 * m)) c) (ended : state (four (8 * m)) c ≡ 0) where
   against : (text : List ℕ) → length text ≡ m
       → (path-cost cost (four (8 * m)) c ≤ distance cost text) × (path-cost cost (four (8 * m)) c ≡ distance cost text → value (four (four (8 * m))) c ≤ value (four (four (8 * m))) (path text))
@@ -157,8 +158,8 @@ module _ (cost : ℕ → Bool → ℕ) (bounded : (i : ℕ) (b : Bool) → cost 
       let z = zero-octets m in
       let a = against (replicate m 0) (z .0) in
       let d = cost-of-text cost m (replicate m 0) (z .0) in
-      let u = cost-bound cost 65535 bounded (four (8 * m)) (path (replicate m 0)) in
-      let w = cost-bound cost 65535 bounded (four (8 * m)) c in
+      let u = cost-bound cost (four (8 * m)) 65535 bounded (path (replicate m 0)) in
+      let w = cost-bound cost (four (8 * m)) 65535 bounded c in
       begin-zero (state 0 c) (omega arith)
 
   module _ (text : List ℕ) (size : length text ≡ m) (held : (i : ℕ) → i < m → getD text i 0 ≡ octet i c) where
@@ -195,19 +196,20 @@ module _ (cost : ℕ → Bool → ℕ) (bounded : (i : ℕ) (b : Bool) → cost 
         ends-value y e = value-four (four (8 * m)) y ∙ rw e (omega arith)
 
 -- what the two passes leave: the nearest text, and its distance
-pub found : (cost : ℕ → Bool → ℕ) → ((i : ℕ) (b : Bool) → cost i b ≤ 65535) → (m : ℕ) → m ≤ 240 → (work text : List ℕ) (n metric : ℕ)
+pub found : (cost : ℕ → Bool → ℕ) (m : ℕ) → m ≤ 240 → (work text : List ℕ) (n metric : ℕ) → Bounded cost n 65535
     → length work ≡ n → n ≡ 8 * m + 4 → length text ≡ m
     → Best cost n (traced work n 0) → metric ≡ path-cost cost n (traced work n 0)
     → ((i : ℕ) → i < m → getD text i 0 ≡ octet i (traced work (length work) 0))
     → Nearest cost m text × (metric ≡ distance cost text)
-found cost bounded m short work text n metric long steps size best is held =
+found cost m short work text n metric every long steps size best is held =
     let e : n ≡ four (8 * m) = omega arith in
+    let bounded : Bounded cost (four (8 * m)) 65535 = subst (λ k. Bounded cost k 65535) e every in
     let c = traced work (four (8 * m)) 0 in
     let b : Best cost (four (8 * m)) c = subst (λ k. Best cost k (traced work k 0)) e best in
     let ended = traced-state work (four (8 * m)) 0 (lit< tt) in
     let holding : (i : ℕ) → i < m → getD text i 0 ≡ octet i c = λ i l. held i l ∙ ap (λ k. octet i (traced work k 0)) (long ∙ e) in
-    (nearest cost bounded m short c b ended text size holding,
-     is ∙ (ap (λ k. path-cost cost k (traced work k 0)) e ∙ sym (its-distance cost bounded m short c b ended text size holding)))
+    (nearest cost m bounded short c b ended text size holding,
+     is ∙ (ap (λ k. path-cost cost k (traced work k 0)) e ∙ sym (its-distance cost m bounded short c b ended text size holding)))
 
 -- there is one nearest text only
 earlier-once : (a b : List ℕ) → Earlier a b → Earlier b a → ⊥

@@ -28,9 +28,12 @@ pub total-times : (n a : ℕ) (f : ℕ → ℕ) → total n (λ i. a * f i) ≡ 
 total-times zero a f = sym (mul-zero a)
 total-times (suc n) a f = let e = total-times n a f in omega arith
 
-pub total-bound : (n b : ℕ) (f : ℕ → ℕ) → ((i : ℕ) → f i ≤ b) → total n f ≤ n * b
+pub total-bound : (n b : ℕ) (f : ℕ → ℕ) → ((i : ℕ) → i < n → f i ≤ b) → total n f ≤ n * b
 total-bound zero b f h = omega arith
-total-bound (suc n) b f h = let e = total-bound n b f h in let l = h n in omega arith
+total-bound (suc n) b f h =
+    let e = total-bound n b f (λ i l. h i (omega arith)) in
+    let l = h n (omega arith) in
+    omega arith
 
 pub total-four : (n : ℕ) (f : ℕ → ℕ)
     → total (4 * n) f ≡ total n (λ j. (f (4 * j) + f (4 * j + 1)) + (f (4 * j + 2) + f (4 * j + 3)))

@@ -113,3 +113,7 @@ Chosen metrics costs new decisions s =
 -- the octet at i that a path holds: its lower four bits are the state after step 8i + 4, its upper four that after 8i + 8
 abbrev pub octet : ℕ → (ℕ → Bool) → ℕ
 octet i c = state (four (8 * i)) c + 16 * state (four (four (8 * i))) c
+
+-- no coded bit of the first n steps costs more than b
+abbrev pub Bounded : (ℕ → Bool → ℕ) → ℕ → ℕ → Type 0
+Bounded cost n b = (i : ℕ) → i < 4 * n → (x : Bool) → cost i x ≤ b

@@ -9,7 +9,7 @@ ghost use Rattle.std.specs.Results.{isOk};
 ghost use Rattle.refusal.specs.Answer.{after};
 ghost use Rattle.distance.specs.Nearest.{Nearest, distance};
 ghost use Rattle.distance.specs.Apart.{Heard, HeardWithin};
-ghost use Rattle.distance.specs.Trellis.{Best, Chosen, back, four-back, label-cost, octet, path-cost, traced};
+ghost use Rattle.distance.specs.Trellis.{Best, Bounded, Chosen, back, four-back, label-cost, octet, path-cost, traced};
 ghost use Rattle.trellis.specs.Search.{search-answer};
 use code::check_length;
 use refusal::Refusal;
@@ -19,10 +19,7 @@ pub trait SoftBits {
     // what it costs that the coded bit at an index is 0 (false) or 1 (true)
     ghost cost: { Self → ℕ → Bool → ℕ };
 
-    // no coded bit costs more than 65,535
-    law bounded: { (s : Self) (i : ℕ) (b : Bool) → cost s i b ≤ 65535 };
-
-    // What it costs that coded bit i is 0, and that it is 1.
+    // What it costs that coded bit i is 0, and that it is 1: at most 65,535, as the type says.
     fn costs(&self, i: usize) -> (u16, u16)
         ensures zero { λ r. ⌜ r .0 ≡ cost (now (self .entry)) i false ⌝ }
         ensures one { λ r. ⌜ r .1 ≡ cost (now (self .entry)) i true ⌝ };
@@ -38,7 +35,8 @@ const BRANCH: [u8; 8] = [0, 14, 11, 5, 12, 2, 7, 9];
 // What each combination of the four coded bits of a step costs, the first counting 1.
 fn label_costs<S: SoftBits>(source: &S, step: usize) -> [u32; 16]
     requires { ⌜ step < 2 ^ 60 ⌝ }
-    ensures { λ r. ⌜ ((q : ℕ) → q < 16 → getD r q 0 ≡ label-cost (cost (now (source .entry))) step q) ⌝ }
+    ensures priced { λ r. ⌜ ((q : ℕ) → q < 16 → getD r q 0 ≡ label-cost (cost (now (source .entry))) step q) ⌝ }
+    ensures bounded { λ _. ⌜ (Bounded (cost (now (source .entry))) step 65535 → Bounded (cost (now (source .entry))) (step + 1) 65535) ⌝ }
 {
     let (a0, a1) = source.costs(4 * step);
     let (b0, b1) = source.costs(4 * step + 1);
@@ -111,6 +109,7 @@ fn forward<S: SoftBits>(source: &S, work: &mut [u16]) -> u32
     requires { ⌜ length (now work) ≤ 1924 ⌝ }
     ensures best { λ _. ⌜ Best (cost (now (source .entry))) (length (now (work .entry))) (traced (now (work .exit)) (length (now (work .entry))) 0) ⌝ }
     ensures metric { λ r. ⌜ r ≡ path-cost (cost (now (source .entry))) (length (now (work .entry))) (traced (now (work .exit)) (length (now (work .entry))) 0) ⌝ }
+    ensures bounded { λ _. ⌜ Bounded (cost (now (source .entry))) (length (now (work .entry))) 65535 ⌝ }
 {
     let mut metrics = [UNREACHED; 16];
     metrics[0] = 0;
