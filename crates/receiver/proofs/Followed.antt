@@ -21,6 +21,8 @@ use Rattle.refusal.specs.Answer.{text-checked}
 use lib.Dec.{ltb, eqb}
 use Rattle.stage.specs.declared.Marker.{Marker}
 use Rattle.stage.specs.Meaning.{Meaning}
+use Rattle.code.specs.Coder.{coded-count}
+use Rattle.fit.specs.Fit.{best-start-answer}
 use Rattle.receiver.specs.State.{State, Request, hears, loses, finds, hear-answer, lose-answer, find-answer, out-of-range, some-out-of-range, next, laid, erased, unless-refused}
 use Rattle.receiver.specs.Held.{memory-of, room, held, Follows, written}
 use Rattle.receiver.specs.declared.memory.Receiver.{Receiver}
@@ -139,17 +141,22 @@ lose-accepted r place n within =
     let test : ltb (length (held r .standing)) (place + n) ≡ false = rw (stand r) (le-ltb (r .count) (place + n) within) in
     rw test refl
 
--- the check of a text's length, before any further one
-pub length-refused : {A : Type 0} (m : ℕ) (e : Refusal) (rest : Result A Refusal) → text-checked {A = Unit {0}} m (Ok tt) ≡ Err e → text-checked m rest ≡ Err e
-length-refused m e rest h = grind (arith, tells)
+-- the checks of a text's length, before any further one
+pub length-refused : {A B : Type 0} (m : ℕ) (x : B) (e : Refusal) (rest : Result A Refusal) → text-checked m (Ok x) ≡ Err e → text-checked m rest ≡ Err e
+length-refused m x e rest h = grind (arith, tells)
 
-pub length-accepted : {A : Type 0} (m : ℕ) (rest : Result A Refusal) → text-checked {A = Unit {0}} m (Ok tt) ≡ Ok tt → text-checked m rest ≡ rest
-length-accepted m rest h = grind (arith, tells)
+pub length-accepted : {A B : Type 0} (m : ℕ) (x y : B) (rest : Result A Refusal) → text-checked m (Ok x) ≡ Ok y → text-checked m rest ≡ rest
+length-accepted m x y rest h = grind (arith, tells)
 
-pub length-most : (m : ℕ) → text-checked {A = Unit {0}} m (Ok tt) ≡ Ok tt → m ≤ 240
-length-most m h = grind (arith, tells)
+pub length-answered : {B : Type 0} (m : ℕ) (x y : B) → text-checked m (Ok x) ≡ Ok y → y ≡ x
+length-answered m x y h = grind (arith, tells)
 
 -- a refused find leaves the start
 pub find-refused : (r : Receiver) (pile : Meaning) (markers : ℕ → List Marker) (m : ℕ) (result : Result (ℕ × ℤ) Refusal) (y e : Refusal) → result ≡ Err y → y ≡ e → find-answer (held r) pile markers m ≡ Err e → (result ≡ find-answer (held r) pile markers m) × Follows r (finds pile markers m) r
 find-refused r pile markers m result y e is same refused =
     (is ∙ ap Err same ∙ sym refused, stays r (finds pile markers m) (rw refused refl))
+
+-- past the checks of the length a find answers the best start for that many coded bits
+pub find-answered : (s : State) (pile : Meaning) (markers : ℕ → List Marker) (m n : ℕ) → text-checked m (Ok (coded-count m)) ≡ Ok n → find-answer s pile markers m ≡ best-start-answer pile markers n (s .standing)
+find-answered s pile markers m n h =
+    length-accepted m (coded-count m) n (best-start-answer pile markers (coded-count m) (s .standing)) h ∙ ap (λ k. best-start-answer pile markers k (s .standing)) (sym (length-answered m (coded-count m) n h))

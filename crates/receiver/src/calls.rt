@@ -10,7 +10,7 @@ ghost use Rattle.receiver.specs.State.{opened, hear-answer, lose-answer, find-
 ghost use Rattle.receiver.specs.Held.{memory-of, room, held, Follows, written};
 use crate::memory::GREATEST_CAPACITY;
 use crate::memory::Receiver;
-use code::check_length;
+use code::coded_count;
 use fit::best_start;
 use refusal::Refusal;
 use stage::MarkedStage;
@@ -114,8 +114,8 @@ impl<'a> Receiver<'a> {
         ensures answer { λ r. ⌜ r ≡ find-answer (held (now (self .entry))) (meaning-of (M·Stage .takes (now (stage .entry))) (M·Stage .size (now (stage .entry))) (M·Stage .at (now (stage .entry)))) (M·MarkedStage .markers (now (stage .entry))) m ⌝ }
         ensures after { λ _. ⌜ Follows (now (self .entry)) (finds (meaning-of (M·Stage .takes (now (stage .entry))) (M·Stage .size (now (stage .entry))) (M·Stage .at (now (stage .entry)))) (M·MarkedStage .markers (now (stage .entry))) m) (now (self .exit)) ⌝ }
     {
-        check_length(m)?;
-        let best = self.best(stage, 32 * m + 16)?;
+        let n = coded_count(m)?;
+        let best = self.best(stage, n)?;
         self.start = best.0;
         Ok(best)
     }

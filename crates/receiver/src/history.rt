@@ -20,6 +20,7 @@ use refusal::RefusalPartialEq;
 use stage::MarkedStage;
 
 // A call of a receiver. The piles of one list have one type: stages of two types mix as a stage that is one of both.
+#[derive_where(Clone, Copy)]
 pub enum Call<'c, M> {
     Begin,
     Hear(&'c [i8]),
