@@ -1,0 +1,4 @@
+pub mod Writes
+pub mod Followed
+pub mod Plays
+pub mod Law
