@@ -9,7 +9,7 @@ use native.Mathlib.Omega.{arith}
 use lib.Dec.{ltb, eqb}
 use lib.ListN.{length, getD, take, drop, length-append, length-drop}
 use lib.Seq.{drop-drop, getD-drop}
-use Rattle.std.proofs.shelf.Tests.{lt-ltb}
+use Rattle.std.proofs.shelf.Tests.{lt-ltb, le-ltb, cond-false}
 use Rattle.std.specs.Iters.{yields, drains}
 use Rattle.std.specs.Reads.{NoChar}
 use Rattle.std.specs.Text.{Utf8}
@@ -181,3 +181,40 @@ tally-push xs x = λ k. record {
   characters = counted-push is-character xs x k;
   broken = counted-push is-broken xs x k;
 }
+
+-- ---- the reading of a text is one list
+module _ (text : List ℕ) where
+  -- each item is what stands where the one before it ends, and nothing stands behind the last
+  abbrev Chain : ℕ → List Placed → Type 0
+  Chain p [] = standing text p ≡ None
+  Chain p (x ∷ xs) = (standing text p ≡ Some x) × Chain (p + length (octets-of (x .item))) xs
+
+  same : (xs ys : List Placed) (p : ℕ) → Chain p xs → Chain p ys → xs ≡ ys
+  same [] [] p c d = refl
+  same [] (y ∷ ys) p c d = absurd (let e = d .0 in let z : _≡_ {A = ℕ} 0 1 = cc in omega arith)
+  same (x ∷ xs) [] p c d = absurd (let e = c .0 in let z : _≡_ {A = ℕ} 0 1 = cc in omega arith)
+  same (x ∷ xs) (y ∷ ys) p c d =
+      let f = c .0 in
+      let g = d .0 in
+      let e : y ≡ x = cc in
+      let r = same xs ys (p + length (octets-of (x .item))) (c .1) (subst (λ (z : Placed). Chain (p + length (octets-of (z .item))) ys) e (d .1)) in
+      λ k. sym e k ∷ r k
+
+  chain : (xs : List Placed) (p : ℕ) → ((k : ℕ) (d : Placed) → k < length xs → getD xs k d .place ≡ p + length (joined (take k xs)))
+      → ((k : ℕ) (d : Placed) → k < length xs → standing text (getD xs k d .place) ≡ Some (getD xs k d)) → p + length (joined xs) ≡ length text → Chain p xs
+  chain [] p places stands end = cond-false _ _ _ (le-ltb p (length text) (omega (arith, end)))
+  chain (x ∷ xs) p places stands end =
+      let n : ℕ = length (octets-of (x .item)) in
+      let here : x .place ≡ p = places 0 x (omega arith) ∙ add-zero p in (
+        ap (standing text) (sym here) ∙ stands 0 x (omega arith),
+        chain xs (p + n)
+            (λ k d h. omega (arith, places (suc k) d (omega arith), length-append (octets-of (x .item)) (joined (take k xs))))
+            (λ k d h. stands (suc k) d (omega arith))
+            (omega (arith, end, length-append (octets-of (x .item)) (joined xs))),
+      )
+
+  whole-chain : (xs : List Placed) → Reading text xs → Chain 0 xs
+  whole-chain xs r = chain xs 0 (λ k d h. r .places k d h ∙ sym (zero-add _)) (r .stands) (zero-add _ ∙ ap length (r .octets))
+
+  pub only : (xs ys : List Placed) → Reading text xs → Reading text ys → ys ≡ xs
+  only xs ys r q = same ys xs 0 (whole-chain ys q) (whole-chain xs r)

@@ -124,3 +124,8 @@ pub record Reading (text : List ℕ) (items : List Placed) : Type 0 where
   pub unbroken : Utf8 text → counted is-broken items ≡ 0
   -- one of the octets is an enquiry exactly if one of the items is
   pub enquiries : holds-enquiry text ≡ ltb 0 (counted is-enquiry items)
+
+-- these items are the reading of a text, and no others are
+pub record OnlyReading (text : List ℕ) (items : List Placed) : Type 0 where
+  pub reading : Reading text items
+  pub only : (others : List Placed) → Reading text others → others ≡ items

@@ -4,7 +4,7 @@ ghost use lib.Dec.{ltb};
 ghost use lib.ListN.{length, getD};
 ghost use Prim.Native.Nat.{_-_, _<_};
 ghost use mathlib.Core.List.{List};
-ghost use Rattle.character.specs.Reader.{Next, Reading, standing, front-item, octets-of, tally-of, holds-enquiry};
+ghost use Rattle.character.specs.Reader.{Next, OnlyReading, standing, front-item, octets-of, tally-of, holds-enquiry};
 ghost use Rattle.character.specs.Forms.{Room, Within, one-more};
 ghost use Rattle.character.specs.declared.Placed.{Placed as PlacedItem};
 
@@ -142,7 +142,7 @@ impl Tally {
 
     // Reads a whole text and counts its items.
     pub fn of(text: &[u8]) -> Tally
-        ensures items { λ r. ⌜ ((items : List PlacedItem) × Reading (now (text .entry)) items × (r ≡ tally-of items)) ⌝ }
+        ensures items { λ r. ⌜ ((items : List PlacedItem) × OnlyReading (now (text .entry)) items × (r ≡ tally-of items)) ⌝ }
         ensures enquiry { λ r. ⌜ holds-enquiry (now (text .entry)) ≡ ltb 0 (r .enquiries) ⌝ }
     {
         let mut tally = Tally {
