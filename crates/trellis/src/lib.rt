@@ -25,6 +25,9 @@ pub trait SoftBits {
         ensures one { λ r. ⌜ r .1 ≡ cost (now (self .entry)) i true ⌝ };
 }
 
+// The state in which every text begins and, after its four zero bits, ends.
+const ZERO_STATE: usize = 0;
+
 // What a path costs that did not begin in the zero state: more than any text.
 const UNREACHED: u32 = 1 << 30;
 
@@ -45,8 +48,22 @@ fn label_costs<S: SoftBits>(source: &S, step: usize) -> [u32; 16]
     let [f0, f1, f2, f3] = pair_costs(a0, a1, b0, b1);
     let [l0, l1, l2, l3] = pair_costs(c0, c1, d0, d1);
     [
-        f0 + l0, f1 + l0, f2 + l0, f3 + l0, f0 + l1, f1 + l1, f2 + l1, f3 + l1, f0 + l2, f1 + l2,
-        f2 + l2, f3 + l2, f0 + l3, f1 + l3, f2 + l3, f3 + l3,
+        f0 + l0,
+        f1 + l0,
+        f2 + l0,
+        f3 + l0,
+        f0 + l1,
+        f1 + l1,
+        f2 + l1,
+        f3 + l1,
+        f0 + l2,
+        f1 + l2,
+        f2 + l2,
+        f3 + l2,
+        f0 + l3,
+        f1 + l3,
+        f2 + l3,
+        f3 + l3,
     ]
 }
 
@@ -66,7 +83,11 @@ fn cheaper(first: u32, second: u32) -> (u32, bool)
     ensures metric { λ r. ⌜ r .0 ≡ cond (ltb second first) second first ⌝ }
     ensures turned { λ r. ⌜ r .1 ≡ ltb second first ⌝ }
 {
-    if second < first { (second, true) } else { (first, false) }
+    if second < first {
+        (second, true)
+    } else {
+        (first, false)
+    }
 }
 
 // What a step leaves: the metric of each state, and its decision bit.
@@ -119,7 +140,7 @@ fn forward<S: SoftBits>(source: &S, work: &mut [u16]) -> u32
         work[step] = next.decisions;
         metrics = next.metrics;
     }
-    metrics[0]
+    metrics[ZERO_STATE]
 }
 
 // The state before `state`, by the decision bit that it has among those of its step.
@@ -146,7 +167,7 @@ fn trace_back(work: &[u16], text: &mut [u8])
     requires { ⌜ length (now work) ≡ 8 * length (now text) + 4 ⌝ }
     ensures { λ _. ⌜ ((i : ℕ) → i < length (now (text .entry)) → getD (now (text .exit)) i 0 ≡ octet i (traced (now (work .entry)) (length (now (work .entry))) 0)) ⌝ }
 {
-    let mut state = 0;
+    let mut state = ZERO_STATE;
     for i in (0..text.len()).rev() {
         let high = steps_back(work, 8 * i + 8, state);
         let low = steps_back(work, 8 * i + 4, high);
@@ -169,7 +190,12 @@ fn search<S: SoftBits>(source: &S, text: &mut [u8], work: &mut [u16]) -> u32
 // Searches for the text of m octets that lies nearest to what the source heard: of all strings of m octets the one that
 // costs least, and of equally cheap ones the one with the smaller octet at the last place where they differ. Writes it
 // into the first places of `text`, and answers its distance. It works in `work`, a place for each step.
-pub fn nearest_text<S: SoftBits>(source: &S, m: usize, text: &mut [u8], work: &mut [u16]) -> Result<u32, Refusal>
+pub fn nearest_text<S: SoftBits>(
+    source: &S,
+    m: usize,
+    text: &mut [u8],
+    work: &mut [u16],
+) -> Result<u32, Refusal>
     ensures answer { λ r. ⌜ r ≡ search-answer m (length (now (text .entry))) (length (now (work .entry))) (distance (cost (now (source .entry))) (take m (now (text .exit)))) ⌝ }
     ensures memory { λ r. ⌜ now (text .exit) ≡ after r (take m (now (text .exit))) (now (text .entry)) ⌝ }
     ensures working { λ r. ⌜ (length (now (work .exit)) ≡ length (now (work .entry))) × (isOk r ≡ false → now (work .exit) ≡ now (work .entry)) ⌝ }
