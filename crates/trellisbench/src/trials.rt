@@ -34,7 +34,11 @@ fn scored(octet: u8, levels: &[u8; 48]) -> u32 {
     let _ = encode(&[octet], &mut bits);
     let mut sum = 0u32;
     for (bit, level) in bits.iter().zip(levels.iter()) {
-        let cost = if *bit { 254u8.saturating_sub(*level) } else { *level };
+        let cost = if *bit {
+            254u8.saturating_sub(*level)
+        } else {
+            *level
+        };
         sum = sum.wrapping_add(u32::from(cost));
     }
     sum
