@@ -15,7 +15,7 @@ use mir.Val.{boolByte}
 use lib.Pow.{pow-pos, pow-add}
 use Rattle.std.proofs.shelf.Tests.{cases-lt}
 use Rattle.std.proofs.shelf.Bits.{shr-shr, pow-below}
-use Rattle.distance.specs.Trellis.{one, label, candidate, Chosen}
+use Rattle.distance.specs.Trellis.{one, label, labels, candidate, Chosen}
 
 -- a bit put on top leaves those below it
 bit-kept : (acc x t j : ℕ) → t < j → (acc + x * 2 ^ j) / 2 ^ t % 2 ≡ acc / 2 ^ t % 2
@@ -55,10 +55,6 @@ joined metrics costs next low high h lows highs s l = ⊎-elim below above (case
 
     above : 8 ≤ s → Chosen metrics costs next (low + 256 * high) s
     above g = let e : s - 8 + 8 ≡ s = omega arith in subst (λ n. Chosen metrics costs next (low + 256 * high) n) e (above-at (s - 8) (omega arith))
-
--- the coded bits of the branch from state 2j with a new 0
-abbrev pub labels : List ℕ
-labels = 0 ∷ 14 ∷ 11 ∷ 5 ∷ 12 ∷ 2 ∷ 7 ∷ 9 ∷ []
 
 -- the table's rule: a new 1 inverts all four coded bits, and so does a 1 that drops out
 record Labelled (j b : ℕ) : Type 0 where
@@ -150,24 +146,24 @@ module _ (metrics costs next after : List ℕ) (acc j : ℕ) (place : ℕ → �
       here = (new ∙ (is ∙ cc), ap (λ n. n / 2 ^ j % 2) sum ∙ (bit-new acc (boolByte b) j l (byte-below b) ∙ (byte-one b ∙ ap one (which ∙ test))))
 
 -- one turn of the step: both states
-pub turn : (metrics costs next : List ℕ) (low high j : ℕ) → j < 8 → low < 2 ^ j → high < 2 ^ j → length next ≡ 16
+pub turn : (metrics costs next : List ℕ) (low high j q : ℕ) → j < 8 → q ≡ getD labels j 0 → low < 2 ^ j → high < 2 ^ j → length next ≡ 16
     → ((t : ℕ) → t < j → Taken metrics costs next low t t) → ((t : ℕ) → t < j → Taken metrics costs next high t (t + 8))
     → (x y : ℕ) (b c : Bool)
-    → x ≡ cond (ltb (getD metrics (2 * j + 1) 0 + getD costs (15 - getD labels j 0) 0) (getD metrics (2 * j) 0 + getD costs (getD labels j 0) 0)) (getD metrics (2 * j + 1) 0 + getD costs (15 - getD labels j 0) 0) (getD metrics (2 * j) 0 + getD costs (getD labels j 0) 0)
-    → b ≡ ltb (getD metrics (2 * j + 1) 0 + getD costs (15 - getD labels j 0) 0) (getD metrics (2 * j) 0 + getD costs (getD labels j 0) 0)
-    → y ≡ cond (ltb (getD metrics (2 * j + 1) 0 + getD costs (getD labels j 0) 0) (getD metrics (2 * j) 0 + getD costs (15 - getD labels j 0) 0)) (getD metrics (2 * j + 1) 0 + getD costs (getD labels j 0) 0) (getD metrics (2 * j) 0 + getD costs (15 - getD labels j 0) 0)
-    → c ≡ ltb (getD metrics (2 * j + 1) 0 + getD costs (getD labels j 0) 0) (getD metrics (2 * j) 0 + getD costs (15 - getD labels j 0) 0)
+    → x ≡ cond (ltb (getD metrics (2 * j + 1) 0 + getD costs (15 - q) 0) (getD metrics (2 * j) 0 + getD costs q 0)) (getD metrics (2 * j + 1) 0 + getD costs (15 - q) 0) (getD metrics (2 * j) 0 + getD costs q 0)
+    → b ≡ ltb (getD metrics (2 * j + 1) 0 + getD costs (15 - q) 0) (getD metrics (2 * j) 0 + getD costs q 0)
+    → y ≡ cond (ltb (getD metrics (2 * j + 1) 0 + getD costs q 0) (getD metrics (2 * j) 0 + getD costs (15 - q) 0)) (getD metrics (2 * j + 1) 0 + getD costs q 0) (getD metrics (2 * j) 0 + getD costs (15 - q) 0)
+    → c ≡ ltb (getD metrics (2 * j + 1) 0 + getD costs q 0) (getD metrics (2 * j) 0 + getD costs (15 - q) 0)
     → ((t : ℕ) → t < j + 1 → Taken metrics costs (set (set next j x) (j + 8) y) (low + boolByte b * 2 ^ j % 65536) t t)
     × ((t : ℕ) → t < j + 1 → Taken metrics costs (set (set next j x) (j + 8) y) (high + boolByte c * 2 ^ j % 65536) t (t + 8))
-turn metrics costs next low high j h ll lh len lows highs x y b c ix ib iy ic = (
+turn metrics costs next low high j q h is ll lh len lows highs x y b c ix ib iy ic = (
   taken-more metrics costs next (set (set next j x) (j + 8) y) low j (λ t. t) h ll lows
       (λ t p. getD-set-other (set next j x) (j + 8) t y 0 (omega arith) ∙ getD-set-other next j t x 0 (omega arith))
       x _ _ b
       (getD-set-other (set next j x) (j + 8) j y 0 (omega arith) ∙ getD-set-same next j x 0 (omega arith))
-      ix ib (low-zero metrics costs j h) (low-one metrics costs j h),
+      ix ib (low-zero metrics costs j h ∙ ap (λ n. getD metrics (2 * j) 0 + getD costs n 0) (sym is)) (low-one metrics costs j h ∙ ap (λ n. getD metrics (2 * j + 1) 0 + getD costs (15 - n) 0) (sym is)),
   taken-more metrics costs next (set (set next j x) (j + 8) y) high j (λ t. t + 8) h lh highs
       (λ t p. getD-set-other (set next j x) (j + 8) (t + 8) y 0 (omega arith) ∙ getD-set-other next j (t + 8) x 0 (omega arith))
       y _ _ c
       (getD-set-same (set next j x) (j + 8) y 0 (omega (arith, length-set next j x)))
-      iy ic (high-zero metrics costs j h) (high-one metrics costs j h),
+      iy ic (high-zero metrics costs j h ∙ ap (λ n. getD metrics (2 * j) 0 + getD costs (15 - n) 0) (sym is)) (high-one metrics costs j h ∙ ap (λ n. getD metrics (2 * j + 1) 0 + getD costs n 0) (sym is)),
 )

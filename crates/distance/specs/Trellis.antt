@@ -100,6 +100,10 @@ bits-of v = odd (v / 16) ∷ odd (v / 8) ∷ odd (v / 4) ∷ odd (v / 2) ∷ odd
 abbrev pub label : ℕ → ℕ
 label v = one (sent (bits-of v) 0) + 2 * one (sent (bits-of v) 1) + 4 * one (sent (bits-of v) 2) + 8 * one (sent (bits-of v) 3)
 
+-- the labels of the branches from the states 0, 2, 4 and so on with a new 0; the proofs hold them to the four sums
+abbrev pub labels : List ℕ
+labels = 0 ∷ 14 ∷ 11 ∷ 5 ∷ 12 ∷ 2 ∷ 7 ∷ 9 ∷ []
+
 -- what it costs to come to state s where the bit d drops out
 abbrev pub candidate : List ℕ → List ℕ → ℕ → ℕ → ℕ
 candidate metrics costs s d = getD metrics (2 * (s % 8) + d) 0 + getD costs (label (2 * (s % 8) + d + 16 * (s / 8))) 0

@@ -9,8 +9,8 @@ ghost use Rattle.std.specs.Results.{isOk};
 ghost use Rattle.refusal.specs.Answer.{after};
 ghost use Rattle.distance.specs.Nearest.{Nearest, distance};
 ghost use Rattle.distance.specs.Apart.{Heard, HeardWithin};
-ghost use Rattle.distance.specs.Trellis.{Best, Bounded, Chosen, back, four-back, label-cost, octet, path-cost, traced};
-ghost use Rattle.trellis.specs.Search.{search-answer};
+ghost use Rattle.distance.specs.Trellis.{Best, Bounded, Chosen, back, four-back, label-cost, labels, octet, path-cost, traced};
+ghost use Rattle.trellis.specs.Search.{search-answer, steps-of};
 use code::check_length;
 use refusal::Refusal;
 
@@ -25,12 +25,26 @@ pub trait SoftBits {
         ensures one { λ r. ⌜ r .1 ≡ cost (now (self .entry)) i true ⌝ };
 }
 
+// The state in which every text begins and, after its four zero bits, ends.
+const ZERO_STATE: usize = 0;
+
 // What a path costs that did not begin in the zero state: more than any text.
 const UNREACHED: u32 = 1 << 30;
 
 // The coded bits of the branch from state 2j with a new 0, the first counting 1. A new 1 inverts all four, and so does
 // a 1 that drops out.
 const BRANCH: [u8; 8] = [0, 14, 11, 5, 12, 2, 7, 9];
+
+// What each combination of two coded bits costs, the first counting 1.
+fn pair_costs(a0: u16, a1: u16, b0: u16, b1: u16) -> [u32; 4]
+    ensures { λ r. ⌜ r ≡ (a0 + b0) ∷ (a1 + b0) ∷ (a0 + b1) ∷ (a1 + b1) ∷ [] ⌝ }
+{
+    let a0 = u32::from(a0);
+    let a1 = u32::from(a1);
+    let b0 = u32::from(b0);
+    let b1 = u32::from(b1);
+    [a0 + b0, a1 + b0, a0 + b1, a1 + b1]
+}
 
 // What each combination of the four coded bits of a step costs, the first counting 1.
 fn label_costs<S: SoftBits>(source: &S, step: usize) -> [u32; 16]
@@ -64,17 +78,6 @@ fn label_costs<S: SoftBits>(source: &S, step: usize) -> [u32; 16]
     ]
 }
 
-// What each combination of two coded bits costs, the first counting 1.
-fn pair_costs(a0: u16, a1: u16, b0: u16, b1: u16) -> [u32; 4]
-    ensures { λ r. ⌜ r ≡ (a0 + b0) ∷ (a1 + b0) ∷ (a0 + b1) ∷ (a1 + b1) ∷ [] ⌝ }
-{
-    let a0 = u32::from(a0);
-    let a1 = u32::from(a1);
-    let b0 = u32::from(b0);
-    let b1 = u32::from(b1);
-    [a0 + b0, a1 + b0, a0 + b1, a1 + b1]
-}
-
 // The cheaper of two ways into a state, and whether it is the second; a tie goes to the first.
 fn cheaper(first: u32, second: u32) -> (u32, bool)
     ensures metric { λ r. ⌜ r .0 ≡ cond (ltb second first) second first ⌝ }
@@ -85,6 +88,14 @@ fn cheaper(first: u32, second: u32) -> (u32, bool)
     } else {
         (first, false)
     }
+}
+
+// The label of the branch from state 2j with a new 0.
+fn branch_label(j: usize) -> usize
+    requires { ⌜ j < 8 ⌝ }
+    ensures { λ r. ⌜ r ≡ getD labels j 0 ⌝ }
+{
+    BRANCH[j] as usize
 }
 
 // What a step leaves: the metric of each state, and its decision bit.
@@ -103,7 +114,7 @@ fn advance(metrics: &[u32; 16], costs: &[u32; 16]) -> Step
     let mut low = 0u16;
     let mut high = 0u16;
     for j in 0..8 {
-        let label = BRANCH[j] as usize;
+        let label = branch_label(j);
         let same = costs[label];
         let inverted = costs[15 - label];
         let zero = metrics[2 * j];
@@ -119,6 +130,13 @@ fn advance(metrics: &[u32; 16], costs: &[u32; 16]) -> Step
         metrics: next,
         decisions: low + 256 * high,
     }
+}
+
+// What the best path into the zero state costs.
+fn into_zero_state(metrics: &[u32; 16]) -> u32
+    ensures { λ r. ⌜ r ≡ getD (now (metrics .entry)) 0 0 ⌝ }
+{
+    metrics[ZERO_STATE]
 }
 
 // The forward pass: writes the decisions of each step into `work`, and answers what the best path into the zero state
@@ -137,7 +155,7 @@ fn forward<S: SoftBits>(source: &S, work: &mut [u16]) -> u32
         work[step] = next.decisions;
         metrics = next.metrics;
     }
-    metrics[0]
+    into_zero_state(&metrics)
 }
 
 // The state before `state`, by the decision bit that it has among those of its step.
@@ -145,7 +163,7 @@ fn step_back(state: usize, decisions: u16) -> usize
     requires { ⌜ state < 16 ⌝ }
     ensures { λ r. ⌜ r ≡ back state decisions ⌝ }
 {
-    2 * (state % 8) + ((decisions >> state) & 1) as usize
+    2 * (state % 8) + ((decisions >> state) % 2) as usize
 }
 
 // The state before the four steps from `step` on.
@@ -159,16 +177,24 @@ fn steps_back(work: &[u16], step: usize, state: usize) -> usize
     step_back(state, work[step])
 }
 
+// The octet whose lower and upper four bits are two states.
+fn octet_of(low: usize, high: usize) -> u8
+    requires { ⌜ low < 16 ⌝ ∗ ⌜ high < 16 ⌝ }
+    ensures { λ r. ⌜ r ≡ low + 16 * high ⌝ }
+{
+    (low + 16 * high) as u8
+}
+
 // The way back from the zero state: a state holds four bits of the text, so two of them make an octet.
 fn trace_back(work: &[u16], text: &mut [u8])
     requires { ⌜ length (now work) ≡ 8 * length (now text) + 4 ⌝ }
     ensures { λ _. ⌜ ((i : ℕ) → i < length (now (text .entry)) → getD (now (text .exit)) i 0 ≡ octet i (traced (now (work .entry)) (length (now (work .entry))) 0)) ⌝ }
 {
-    let mut state = 0;
+    let mut state = ZERO_STATE;
     for i in (0..text.len()).rev() {
         let high = steps_back(work, 8 * i + 8, state);
         let low = steps_back(work, 8 * i + 4, high);
-        text[i] = (low + 16 * high) as u8;
+        text[i] = octet_of(low, high);
         state = low;
     }
 }
@@ -182,6 +208,14 @@ fn search<S: SoftBits>(source: &S, text: &mut [u8], work: &mut [u16]) -> u32
     let metric = forward(source, work);
     trace_back(work, text);
     metric
+}
+
+// How many steps a text of m octets takes.
+fn steps_for(m: usize) -> usize
+    requires { ⌜ m ≤ 240 ⌝ }
+    ensures { λ r. ⌜ r ≡ steps-of m ⌝ }
+{
+    8 * m + 4
 }
 
 // Searches for the text of m octets that lies nearest to what the source heard: of all strings of m octets the one that
@@ -201,7 +235,7 @@ pub fn nearest_text<S: SoftBits>(
     ensures corrected { λ r. ⌜ (isOk r ≡ true → (sent : List ℕ) (heard : ℕ → Heard) → HeardWithin 15 (cost (now (source .entry))) m sent heard → take m (now (text .exit)) ≡ sent) ⌝ }
 {
     check_length(m)?;
-    let steps = 8 * m + 4;
+    let steps = steps_for(m);
     if text.len() < m || work.len() < steps {
         return Err(Refusal::MemoryTooShort);
     }

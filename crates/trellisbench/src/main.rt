@@ -1,6 +1,8 @@
 // Times the search for the nearest text. With no argument it searches once and prints what it found; with a number of
 // rounds it searches so often and prints nanoseconds per bit of the text.
 mod levels;
+#[cfg(test)]
+mod trials;
 
 use code::encode;
 use levels::Levels;
