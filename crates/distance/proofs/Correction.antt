@@ -42,12 +42,12 @@ corrects-fifteen cost m sent heard h other o ne =
     let L : ℕ → ℕ = λ i. one (is-lost (heard i)) in
     let d : 16 ≤ total n D = apart-sixteen m other sent o (h .octets) ne in
     let all : total n (λ i. S i + 254 * D i) ≤ total n (λ i. O i + (508 * W i + 254 * L i)) =
-        total-le n (λ i. S i + 254 * D i) (λ i. O i + (508 * W i + 254 * L i))
-        (λ i l.
-            let g = gap (heard i) (coded (bit sent) i) (coded (bit other) i) in
-            let p = h .costs i l (coded (bit sent) i) in
-            let q = h .costs i l (coded (bit other) i) in
-            omega arith) in
+    total-le n (λ i. S i + 254 * D i) (λ i. O i + (508 * W i + 254 * L i))
+    (λ i l.
+    let g = gap (heard i) (coded (bit sent) i) (coded (bit other) i) in
+    let p = h .costs i l (coded (bit sent) i) in
+    let q = h .costs i l (coded (bit other) i) in
+    omega arith) in
     let s1 = total-add n S (λ i. 254 * D i) in
     let s2 = total-times n 254 D in
     let s3 = total-add n O (λ i. 508 * W i + 254 * L i) in

@@ -23,7 +23,7 @@ bit-kept acc x t j l =
     let p : 2 ^ j ≡ 2 ^ (j - suc t) * 2 ^ suc t = ap (λ n. 2 ^ n) (omega arith) ∙ pow-add 2 (j - suc t) (suc t) in
     let e : x * 2 ^ j ≡ x * 2 ^ (j - suc t) * 2 * 2 ^ t = rw (p, pow-suc 2 t) (omega arith) in
     let d : (acc + x * 2 ^ j) / 2 ^ t ≡ acc / 2 ^ t + x * 2 ^ (j - suc t) * 2 =
-        ap (λ n. (acc + n) / 2 ^ t) e ∙ add-mul-div-right acc (x * 2 ^ (j - suc t) * 2) (pow-pos t) in
+    ap (λ n. (acc + n) / 2 ^ t) e ∙ add-mul-div-right acc (x * 2 ^ (j - suc t) * 2) (pow-pos t) in
     ap (λ n. n % 2) d ∙ add-mul-mod-self-right (acc / 2 ^ t) (x * 2 ^ (j - suc t)) 2
 
 bit-new : (acc x j : ℕ) → acc < 2 ^ j → x < 2 → (acc + x * 2 ^ j) / 2 ^ j % 2 ≡ x
@@ -34,7 +34,7 @@ bit-new acc x j h l =
 abbrev pub Taken : List ℕ → List ℕ → List ℕ → ℕ → ℕ → ℕ → Type 0
 Taken metrics costs next acc t s =
     (getD next s 0 ≡ cond (ltb (candidate metrics costs s 1) (candidate metrics costs s 0)) (candidate metrics costs s 1) (candidate metrics costs s 0))
-        × (acc / 2 ^ t % 2 ≡ one (ltb (candidate metrics costs s 1) (candidate metrics costs s 0)))
+    × (acc / 2 ^ t % 2 ≡ one (ltb (candidate metrics costs s 1) (candidate metrics costs s 0)))
 
 -- the two halves of the decisions, joined
 pub joined : (metrics costs next : List ℕ) (low high : ℕ) → low < 2 ^ 8
@@ -44,12 +44,15 @@ joined metrics costs next low high h lows highs s l = ⊎-elim below above (case
   where
     below : s < 8 → Chosen metrics costs next (low + 256 * high) s
     below g = (lows s g .0, ap (λ n. (low + n) / 2 ^ s % 2) (mul-comm 256 high) ∙ (bit-kept low high s 8 g ∙ lows s g .1))
+
     shifted : (t : ℕ) → (low + 256 * high) / 2 ^ (t + 8) ≡ high / 2 ^ t
     shifted t =
         let d : (low + 256 * high) / 2 ^ 8 ≡ high = omega arith in
         ap (λ k. (low + 256 * high) / 2 ^ k) (add-comm t 8) ∙ (sym (shr-shr (low + 256 * high) 8 t) ∙ ap (λ n. n / 2 ^ t) d)
+
     above-at : (t : ℕ) → t < 8 → Chosen metrics costs next (low + 256 * high) (t + 8)
     above-at t g = (highs t g .0, ap (λ n. n % 2) (shifted t) ∙ highs t g .1)
+
     above : 8 ≤ s → Chosen metrics costs next (low + 256 * high) s
     above g = let e : s - 8 + 8 ≡ s = omega arith in subst (λ n. Chosen metrics costs next (low + 256 * high) n) e (above-at (s - 8) (omega arith))
 
@@ -84,10 +87,13 @@ module _ (metrics costs : List ℕ) (j : ℕ) (h : j < 8) where
 
   low-zero : candidate metrics costs j 0 ≡ getD metrics (2 * j) 0 + getD costs (getD labels j 0) 0
   low-zero = at j 0 (2 * j) _ (omega arith) (ap label (omega arith) ∙ labelled j h .zero-zero)
+
   low-one : candidate metrics costs j 1 ≡ getD metrics (2 * j + 1) 0 + getD costs (15 - getD labels j 0) 0
   low-one = at j 1 (2 * j + 1) _ (omega arith) (ap label (omega arith) ∙ labelled j h .one-zero)
+
   high-zero : candidate metrics costs (j + 8) 0 ≡ getD metrics (2 * j) 0 + getD costs (15 - getD labels j 0) 0
   high-zero = at (j + 8) 0 (2 * j) _ (omega arith) (ap label (omega arith) ∙ labelled j h .zero-one)
+
   high-one : candidate metrics costs (j + 8) 1 ≡ getD metrics (2 * j + 1) 0 + getD costs (getD labels j 0) 0
   high-one = at (j + 8) 1 (2 * j + 1) _ (omega arith) (ap label (omega arith) ∙ labelled j h .one-one)
 
@@ -133,10 +139,13 @@ module _ (metrics costs next after : List ℕ) (acc j : ℕ) (place : ℕ → �
     where
       sum : acc + boolByte b * 2 ^ j % 65536 ≡ acc + boolByte b * 2 ^ j
       sum = ap (λ n. acc + n) (shifted-bit b j h)
+
       old : t < j → Taken metrics costs after (acc + boolByte b * 2 ^ j % 65536) t (place t)
       old p = (kept t p ∙ taken t p .0, ap (λ n. n / 2 ^ t % 2) sum ∙ (bit-kept acc (boolByte b) t j p ∙ taken t p .1))
+
       test : ltb o z ≡ ltb (candidate metrics costs (place j) 1) (candidate metrics costs (place j) 0)
       test = cc
+
       here : Taken metrics costs after (acc + boolByte b * 2 ^ j % 65536) j (place j)
       here = (new ∙ (is ∙ cc), ap (λ n. n / 2 ^ j % 2) sum ∙ (bit-new acc (boolByte b) j l (byte-below b) ∙ (byte-one b ∙ ap one (which ∙ test))))
 
@@ -149,15 +158,16 @@ pub turn : (metrics costs next : List ℕ) (low high j : ℕ) → j < 8 → low 
     → y ≡ cond (ltb (getD metrics (2 * j + 1) 0 + getD costs (getD labels j 0) 0) (getD metrics (2 * j) 0 + getD costs (15 - getD labels j 0) 0)) (getD metrics (2 * j + 1) 0 + getD costs (getD labels j 0) 0) (getD metrics (2 * j) 0 + getD costs (15 - getD labels j 0) 0)
     → c ≡ ltb (getD metrics (2 * j + 1) 0 + getD costs (getD labels j 0) 0) (getD metrics (2 * j) 0 + getD costs (15 - getD labels j 0) 0)
     → ((t : ℕ) → t < j + 1 → Taken metrics costs (set (set next j x) (j + 8) y) (low + boolByte b * 2 ^ j % 65536) t t)
-        × ((t : ℕ) → t < j + 1 → Taken metrics costs (set (set next j x) (j + 8) y) (high + boolByte c * 2 ^ j % 65536) t (t + 8))
-turn metrics costs next low high j h ll lh len lows highs x y b c ix ib iy ic =
-    (taken-more metrics costs next (set (set next j x) (j + 8) y) low j (λ t. t) h ll lows
-        (λ t p. getD-set-other (set next j x) (j + 8) t y 0 (omega arith) ∙ getD-set-other next j t x 0 (omega arith))
-        x _ _ b
-        (getD-set-other (set next j x) (j + 8) j y 0 (omega arith) ∙ getD-set-same next j x 0 (omega arith))
-        ix ib (low-zero metrics costs j h) (low-one metrics costs j h),
-     taken-more metrics costs next (set (set next j x) (j + 8) y) high j (λ t. t + 8) h lh highs
-        (λ t p. getD-set-other (set next j x) (j + 8) (t + 8) y 0 (omega arith) ∙ getD-set-other next j (t + 8) x 0 (omega arith))
-        y _ _ c
-        (getD-set-same (set next j x) (j + 8) y 0 (omega (arith, length-set next j x)))
-        iy ic (high-zero metrics costs j h) (high-one metrics costs j h))
+    × ((t : ℕ) → t < j + 1 → Taken metrics costs (set (set next j x) (j + 8) y) (high + boolByte c * 2 ^ j % 65536) t (t + 8))
+turn metrics costs next low high j h ll lh len lows highs x y b c ix ib iy ic = (
+  taken-more metrics costs next (set (set next j x) (j + 8) y) low j (λ t. t) h ll lows
+      (λ t p. getD-set-other (set next j x) (j + 8) t y 0 (omega arith) ∙ getD-set-other next j t x 0 (omega arith))
+      x _ _ b
+      (getD-set-other (set next j x) (j + 8) j y 0 (omega arith) ∙ getD-set-same next j x 0 (omega arith))
+      ix ib (low-zero metrics costs j h) (low-one metrics costs j h),
+  taken-more metrics costs next (set (set next j x) (j + 8) y) high j (λ t. t + 8) h lh highs
+      (λ t p. getD-set-other (set next j x) (j + 8) (t + 8) y 0 (omega arith) ∙ getD-set-other next j (t + 8) x 0 (omega arith))
+      y _ _ c
+      (getD-set-same (set next j x) (j + 8) y 0 (omega (arith, length-set next j x)))
+      iy ic (high-zero metrics costs j h) (high-one metrics costs j h),
+)

@@ -70,8 +70,10 @@ bounded-more cost k b s0 s1 s2 s3 h i l x = ⊎-elim (λ g. h i g x) (λ g. eith
     either : (x : Bool) → Small cost b i → cost i x ≤ b
     either false s = s .0
     either true s = s .1
+
     at : (j : ℕ) → j ≡ i → Small cost b j → Small cost b i
     at j e s = subst (Small cost b) e s
+
     go : (t : ℕ) → 4 * k + t ≡ i → Small cost b i
     go zero e = at (4 * k) (omega arith) s0
     go (suc zero) e = at (4 * k + 1) (omega arith) s1

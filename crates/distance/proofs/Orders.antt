@@ -37,7 +37,7 @@ value-four n c =
 sixteen : (s n : ℕ) → s * 2 ^ four n ≡ 16 * s * 2 ^ n
 sixteen s n =
     let e0 : 2 ^ four n ≡ 16 * 2 ^ n =
-        omega (arith, pow-suc 2 n, pow-suc 2 (suc n), pow-suc 2 (suc (suc n)), pow-suc 2 (suc (suc (suc n)))) in
+    omega (arith, pow-suc 2 n, pow-suc 2 (suc n), pow-suc 2 (suc (suc n)), pow-suc 2 (suc (suc (suc n)))) in
     rw e0 (omega arith)
 
 -- the number that the first n octets of a text spell, the last counting most
@@ -50,7 +50,7 @@ value-octet text n h =
     let w = value-four (four (four (8 * n))) (path text) in
     let s = sixteen (state (four (four (8 * n))) (path text)) (four (8 * n)) in
     let p : (state (four (8 * n)) (path text) + 16 * state (four (four (8 * n))) (path text)) * 2 ^ four (8 * n) ≡ getD text n 0 * 2 ^ four (8 * n) =
-        ap (λ x. x * 2 ^ four (8 * n)) o in
+    ap (λ x. x * 2 ^ four (8 * n)) o in
     ap (λ k. value k (path text)) e ∙ omega arith
 
 pub same-texts : (m : ℕ) (a b : List ℕ) → Octets m a → Octets m b → ((j : ℕ) → j < m → getD a j 0 ≡ getD b j 0) → a ≡ b
@@ -80,9 +80,9 @@ module _ (a b : List ℕ) (fits-a : (k : ℕ) → getD a k 0 < 256) (fits-b : (k
       let lb = value-below (four (8 * n)) (path b) in
       ⊎-elim
       (λ e. let p : getD a n 0 * 2 ^ four (8 * n) ≡ getD b n 0 * 2 ^ four (8 * n) = cc in
-          further n e (ordered n (omega arith)))
+      further n e (ordered n (omega arith)))
       (⊎-elim (λ l. inr (n, l, λ j p q. absurd (omega arith)))
-          (λ l. let m = mul-le-mul-right (2 ^ four (8 * n)) l in absurd (omega arith)))
+      (λ l. let m = mul-le-mul-right (2 ^ four (8 * n)) l in absurd (omega arith)))
       (cases-order (getD a n 0) (getD b n 0))
 
 -- of two texts of one length the one whose path spells the smaller number comes first

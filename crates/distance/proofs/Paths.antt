@@ -48,10 +48,10 @@ pub cost-agree : (cost : ℕ → Bool → ℕ) (k : ℕ) (c y : ℕ → Bool) �
 unfolding path-cost
 cost-agree cost k c y h =
     let b : begin-cost (state 0 c) ≡ begin-cost (state 0 y) =
-        ap begin-cost (state-agree 0 c y (λ i l. h i (omega arith))) in
+    ap begin-cost (state-agree 0 c y (λ i l. h i (omega arith))) in
     let e : total k (λ j. branch cost j c) ≡ total k (λ j. branch cost j y) =
-        total-ext k (λ j. branch cost j c) (λ j. branch cost j y)
-        (λ j l. branch-agree j (λ i m. h i (omega arith))) in
+    total-ext k (λ j. branch cost j c) (λ j. branch cost j y)
+    (λ j l. branch-agree j (λ i m. h i (omega arith))) in
     omega arith
   where
     branch-agree : (j : ℕ) → Agree (suc (four j)) c y → branch cost j c ≡ branch cost j y
@@ -107,7 +107,7 @@ same-bits k c y e =
       bit1 = one-inj (c (suc k)) (y (suc k)) (omega arith);
       bit2 = one-inj (c (suc (suc k))) (y (suc (suc k))) (omega arith);
       bit3 = one-inj (c (suc (suc (suc k)))) (y (suc (suc (suc k)))) (omega arith);
-      bit4 = one-inj (c (four k)) (y (four k)) (omega arith)
+      bit4 = one-inj (c (four k)) (y (four k)) (omega arith);
     }
 
 -- where the bit that drops out is the same too, the better at step k is the better at the next

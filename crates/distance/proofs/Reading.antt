@@ -83,11 +83,14 @@ state-bits k c y e i l h = go (i - k) (omega arith)
     parted : (a0 a1 a2 a3 b0 b1 b2 b3 : ℕ) → a0 ≤ 1 → a1 ≤ 1 → a2 ≤ 1 → a3 ≤ 1 → b0 ≤ 1 → b1 ≤ 1 → b2 ≤ 1 → b3 ≤ 1
         → a0 + 2 * a1 + 4 * a2 + 8 * a3 ≡ b0 + 2 * b1 + 4 * b2 + 8 * b3 → (a0 ≡ b0) × (a1 ≡ b1) × (a2 ≡ b2) × (a3 ≡ b3)
     parted a0 a1 a2 a3 b0 b1 b2 b3 p0 p1 p2 p3 q0 q1 q2 q3 s = (omega arith, omega arith, omega arith, omega arith)
+
     parts : (one (c k) ≡ one (y k)) × (one (c (suc k)) ≡ one (y (suc k))) × (one (c (suc (suc k))) ≡ one (y (suc (suc k)))) × (one (c (suc (suc (suc k)))) ≡ one (y (suc (suc (suc k)))))
     parts = parted _ _ _ _ _ _ _ _ (one-le (c k)) (one-le (c (suc k))) (one-le (c (suc (suc k)))) (one-le (c (suc (suc (suc k)))))
         (one-le (y k)) (one-le (y (suc k))) (one-le (y (suc (suc k)))) (one-le (y (suc (suc (suc k))))) e
+
     at : (j : ℕ) → j ≡ i → one (c j) ≡ one (y j) → c i ≡ y i
     at j p q = one-inj (c i) (y i) (subst (λ n. one (c n) ≡ one (y n)) p q)
+
     go : (t : ℕ) → k + t ≡ i → c i ≡ y i
     go zero p = at k (omega arith) (parts .0)
     go (suc zero) p = at (suc k) (omega arith) (parts .1)
@@ -127,8 +130,10 @@ module _ (m : ℕ) (c : ℕ → Bool) (text : List ℕ) (octets : Octets m text)
     where
       low : i < 4 → c i ≡ path text i
       low g = state-bits 0 c (path text) begun i (omega arith) g
+
       high : four (8 * m) ≤ i → c i ≡ path text i
       high g = state-bits (four (8 * m)) c (path text) (ended ∙ sym (text-ends m text (octets .0))) i g l
+
       middle : 4 ≤ i → i < four (8 * m) → c i ≡ path text i
       middle g h =
           let o = (i - 4) / 8 in
@@ -164,8 +169,11 @@ module _ (cost : ℕ → Bool → ℕ) (m : ℕ) (bounded : Bounded cost (four (
 
   module _ (text : List ℕ) (size : length text ≡ m) (held : (i : ℕ) → i < m → getD text i 0 ≡ octet i c) where
     are-octets : Octets m text
-    are-octets = (size, λ k. ⊎-elim (λ l. let h = held k l in let x = state-below (four (8 * k)) c in let y = state-below (four (four (8 * k))) c in omega arith)
-        (λ g. past (omega arith)) (cases-lt k m))
+    are-octets = (
+      size,
+      λ k. ⊎-elim (λ l. let h = held k l in let x = state-below (four (8 * k)) c in let y = state-below (four (four (8 * k))) c in omega arith)
+          (λ g. past (omega arith)) (cases-lt k m),
+    )
       where
         past : {k : ℕ} → length text ≤ k → getD text k 0 < 256
         past l = rw (List·getD-eq-default text 0 l) (lit< tt)
@@ -189,7 +197,7 @@ module _ (cost : ℕ → Bool → ℕ) (m : ℕ) (bounded : Bounded cost (four (
               let q = ends-value (path other) (text-ends m other (o .0)) in
               let u : path-cost cost (four (8 * m)) c ≡ distance cost other = omega arith in
               let w = a .1 u in
-              ⊎-elim (λ s. absurd (ne (sym s))) (λ r. r) (value-earlier m text other are-octets o (omega arith))
+              ⊎-elim (λ s. absurd (ne (sym s))) (λ r. r) (value-earlier m text other are-octets o (omega arith));
         }
       where
         ends-value : (y : ℕ → Bool) → state (four (8 * m)) y ≡ 0 → value (four (four (8 * m))) y ≡ value (four (8 * m)) y
@@ -207,9 +215,10 @@ found cost m short work text n metric every long steps size best is held =
     let c = traced work (four (8 * m)) 0 in
     let b : Best cost (four (8 * m)) c = subst (λ k. Best cost k (traced work k 0)) e best in
     let ended = traced-state work (four (8 * m)) 0 (lit< tt) in
-    let holding : (i : ℕ) → i < m → getD text i 0 ≡ octet i c = λ i l. held i l ∙ ap (λ k. octet i (traced work k 0)) (long ∙ e) in
-    (nearest cost m bounded short c b ended text size holding,
-     is ∙ (ap (λ k. path-cost cost k (traced work k 0)) e ∙ sym (its-distance cost m bounded short c b ended text size holding)))
+    let holding : (i : ℕ) → i < m → getD text i 0 ≡ octet i c = λ i l. held i l ∙ ap (λ k. octet i (traced work k 0)) (long ∙ e) in (
+      nearest cost m bounded short c b ended text size holding,
+      is ∙ (ap (λ k. path-cost cost k (traced work k 0)) e ∙ sym (its-distance cost m bounded short c b ended text size holding)),
+    )
 
 -- there is one nearest text only
 earlier-once : (a b : List ℕ) → Earlier a b → Earlier b a → ⊥
@@ -245,7 +254,7 @@ pub corrected : (cost : ℕ → Bool → ℕ) (m : ℕ) (sent : List ℕ) (heard
 corrected cost m sent heard h text n =
     ⊎-elim (λ e. e)
     (λ ne.
-        let c = corrects-fifteen cost m sent heard h text (n .octets) ne in
-        let l = n .least sent (h .octets) in
-        absurd (omega arith))
+    let c = corrects-fifteen cost m sent heard h text (n .octets) ne in
+    let l = n .least sent (h .octets) in
+    absurd (omega arith))
     (decided m text sent (n .octets) (h .octets))

@@ -58,10 +58,10 @@ certified : (a b c d e : Bool) → to-go (number a b c d) ≤ weight (e ∷ d �
 certified a b c d e =
     leb→le _ _
     (both-at (λ e. branch-holds a b c d e)
-        (both-at (λ d. both (λ e. branch-holds a b c d e))
-            (both-at (λ c. both (λ d. both (λ e. branch-holds a b c d e)))
-                (both-at (λ b. both (λ c. both (λ d. both (λ e. branch-holds a b c d e))))
-                    (both-at (λ a. both (λ b. both (λ c. both (λ d. both (λ e. branch-holds a b c d e))))) computed a) b) c) d) e)
+    (both-at (λ d. both (λ e. branch-holds a b c d e))
+    (both-at (λ c. both (λ d. both (λ e. branch-holds a b c d e)))
+    (both-at (λ b. both (λ c. both (λ d. both (λ e. branch-holds a b c d e))))
+    (both-at (λ a. both (λ b. both (λ c. both (λ d. both (λ e. branch-holds a b c d e))))) computed a) b) c) d) e)
 
 first-one : (a b c d e : Bool) → a ≡ false → b ≡ false → c ≡ false → d ≡ false → e ≡ true
     → 16 ≤ weight (e ∷ d ∷ c ∷ b ∷ a ∷ []) + to-go (number b c d e)
@@ -110,6 +110,7 @@ module _ (a b : ℕ → Bool) where
     where
       joined : (x y x′ y′ z : Bool) → x ≡ x′ → y ≡ y′ → xor x′ y′ ≡ z → one (xor x y) ≡ one z
       joined x y x′ y′ z p q r = cc
+
       at : (j : ℕ) → (one (xor (coded a (4 * j)) (coded b (4 * j))) + one (xor (coded a (4 * j + 1)) (coded b (4 * j + 1)))) + (one (xor (coded a (4 * j + 2)) (coded b (4 * j + 2))) + one (xor (coded a (4 * j + 3)) (coded b (4 * j + 3)))) ≡ weight (window j apart)
       at j =
           let p = coded-sent a j in
@@ -136,6 +137,7 @@ module _ (a b : ℕ → Bool) where
       goes-on h =
           let c = certified (apart n) (apart (suc n)) (apart (suc (suc n))) (apart (suc (suc (suc n)))) (apart (four n)) in
           inr (omega arith)
+
       start : ((i : ℕ) → i < four n → apart i ≡ false) → Split (suc n)
       start h = go (apart (four n)) refl
         where
@@ -143,7 +145,7 @@ module _ (a b : ℕ → Bool) where
           go false e = inl (λ i l. ⊎-elim (h i) (λ g. let q : four n ≡ i = omega arith in subst (λ j. apart j ≡ false) q e) (cases-lt i (four n)))
           go true e =
               let f = first-one (apart n) (apart (suc n)) (apart (suc (suc n))) (apart (suc (suc (suc n)))) (apart (four n))
-                  (h n (omega arith)) (h (suc n) (omega arith)) (h (suc (suc n)) (omega arith)) (h (suc (suc (suc n))) (omega arith)) e in
+              (h n (omega arith)) (h (suc n) (omega arith)) (h (suc (suc n)) (omega arith)) (h (suc (suc (suc n))) (omega arith)) e in
               inr (omega arith)
 
 xor-false : (x y : Bool) → xor x y ≡ false → x ≡ y
@@ -162,11 +164,11 @@ same-paths : (m : ℕ) (a b : List ℕ) → Octets m a → Octets m b → Agree 
 same-paths m a b oa ob h =
     same-texts m a b oa ob
     (λ j l.
-        let p = octet-of a j (oa .1 j) in
-        let q = octet-of b j (ob .1 j) in
-        let e = state-agree (four (8 * j)) (path a) (path b) (λ i g. h i (omega arith)) in
-        let f = state-agree (four (four (8 * j))) (path a) (path b) (λ i g. h i (omega arith)) in
-        omega arith)
+    let p = octet-of a j (oa .1 j) in
+    let q = octet-of b j (ob .1 j) in
+    let e = state-agree (four (8 * j)) (path a) (path b) (λ i g. h i (omega arith)) in
+    let f = state-agree (four (four (8 * j))) (path a) (path b) (λ i g. h i (omega arith)) in
+    omega arith)
 
 -- the difference of two texts of m octets ends in the zero state
 ends-zero : (m : ℕ) (a b : List ℕ) → length a ≡ m → length b ≡ m → state (four (8 * m)) (apart (bit a) (bit b)) ≡ 0
@@ -186,10 +188,10 @@ apart-sixteen m a b oa ob ne =
     ⊎-elim
     (λ z. absurd (ne (same-paths m a b oa ob (λ i l. xor-false (path a i) (path b i) (z i l)))))
     (λ h.
-        let n : coded-count m ≡ 4 * four (8 * m) = omega arith in
-        let e = differing (bit a) (bit b) (four (8 * m)) in
-        let c : count (coded-count m) (λ i. xor (coded (bit a) i) (coded (bit b) i)) ≡ count (4 * four (8 * m)) (λ i. xor (coded (bit a) i) (coded (bit b) i)) =
-            ap (λ k. count k (λ i. xor (coded (bit a) i) (coded (bit b) i))) n in
-        let z : to-go (state (four (8 * m)) (apart (bit a) (bit b))) ≡ 0 = ap to-go (ends-zero m a b (oa .0) (ob .0)) in
-        omega arith)
+    let n : coded-count m ≡ 4 * four (8 * m) = omega arith in
+    let e = differing (bit a) (bit b) (four (8 * m)) in
+    let c : count (coded-count m) (λ i. xor (coded (bit a) i) (coded (bit b) i)) ≡ count (4 * four (8 * m)) (λ i. xor (coded (bit a) i) (coded (bit b) i)) =
+    ap (λ k. count k (λ i. xor (coded (bit a) i) (coded (bit b) i))) n in
+    let z : to-go (state (four (8 * m)) (apart (bit a) (bit b))) ≡ 0 = ap to-go (ends-zero m a b (oa .0) (ob .0)) in
+    omega arith)
     (split (bit a) (bit b) (four (8 * m)))

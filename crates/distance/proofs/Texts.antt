@@ -36,9 +36,9 @@ window-back : (b : ℕ → Bool) (j : ℕ)
     → window j (delayed b) ≡ before b j 0 ∷ before b j 1 ∷ before b j 2 ∷ before b j 3 ∷ before b j 4 ∷ []
 window-back b j =
     let w0 : delayed b (four j) ≡ before b j 0 =
-        before-suc b (suc (suc (suc j))) 3 ∙ (before-suc b (suc (suc j)) 2 ∙ (before-suc b (suc j) 1 ∙ before-suc b j 0)) in
+    before-suc b (suc (suc (suc j))) 3 ∙ (before-suc b (suc (suc j)) 2 ∙ (before-suc b (suc j) 1 ∙ before-suc b j 0)) in
     let w1 : delayed b (suc (suc (suc j))) ≡ before b j 1 =
-        before-suc b (suc (suc j)) 3 ∙ (before-suc b (suc j) 2 ∙ before-suc b j 1) in
+    before-suc b (suc (suc j)) 3 ∙ (before-suc b (suc j) 2 ∙ before-suc b j 1) in
     let w2 : delayed b (suc (suc j)) ≡ before b j 2 = before-suc b (suc j) 3 ∙ before-suc b j 2 in
     let w3 : delayed b (suc j) ≡ before b j 3 = before-suc b j 3 in
     cc
@@ -49,13 +49,14 @@ coded-at b i j r p q = cc
 
 pub coded-sent : (b : ℕ → Bool) (j : ℕ)
     → (coded b (4 * j) ≡ sent (window j (delayed b)) 0) × (coded b (4 * j + 1) ≡ sent (window j (delayed b)) 1)
-        × (coded b (4 * j + 2) ≡ sent (window j (delayed b)) 2) × (coded b (4 * j + 3) ≡ sent (window j (delayed b)) 3)
+    × (coded b (4 * j + 2) ≡ sent (window j (delayed b)) 2) × (coded b (4 * j + 3) ≡ sent (window j (delayed b)) 3)
 coded-sent b j =
-    let w = window-back b j in
-    (coded-at b (4 * j) j 0 (omega arith) (omega arith) ∙ sym (ap (λ v. sent v 0) w),
-     coded-at b (4 * j + 1) j 1 (omega arith) (omega arith) ∙ sym (ap (λ v. sent v 1) w),
-     coded-at b (4 * j + 2) j 2 (omega arith) (omega arith) ∙ sym (ap (λ v. sent v 2) w),
-     coded-at b (4 * j + 3) j 3 (omega arith) (omega arith) ∙ sym (ap (λ v. sent v 3) w))
+    let w = window-back b j in (
+      coded-at b (4 * j) j 0 (omega arith) (omega arith) ∙ sym (ap (λ v. sent v 0) w),
+      coded-at b (4 * j + 1) j 1 (omega arith) (omega arith) ∙ sym (ap (λ v. sent v 1) w),
+      coded-at b (4 * j + 2) j 2 (omega arith) (omega arith) ∙ sym (ap (λ v. sent v 2) w),
+      coded-at b (4 * j + 3) j 3 (omega arith) (omega arith) ∙ sym (ap (λ v. sent v 3) w),
+    )
 
 same-cost : (cost : ℕ → Bool → ℕ) (k : ℕ) (p p′ q q′ r r′ s s′ : Bool) → p ≡ p′ → q ≡ q′ → r ≡ r′ → s ≡ s′
     → four-cost cost k p q r s ≡ four-cost cost k p′ q′ r′ s′

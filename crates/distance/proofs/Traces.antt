@@ -121,7 +121,7 @@ branch-label cost k costs h c =
     let w = bits-back (c k) (c (suc k)) (c (suc (suc k))) (c (suc (suc (suc k)))) (c (four k)) in
     let v = state k c + 16 * one (c (four k)) in
     h (label v) (label-below v) ∙ (label-cost-of cost k (sent (bits-of v) 0) (sent (bits-of v) 1) (sent (bits-of v) 2) (sent (bits-of v) 3)
-        ∙ ap (λ u. four-cost cost k (sent u 0) (sent u 1) (sent u 2) (sent u 3)) w)
+    ∙ ap (λ u. four-cost cost k (sent u 0) (sent u 1) (sent u 2) (sent u 3)) w)
 
 -- one step of the search: where each state takes the cheaper candidate, the survivors go on
 module _ (cost : ℕ → Bool → ℕ) (k : ℕ) (work next metrics costs new : List ℕ) (decisions : ℕ)
@@ -158,7 +158,7 @@ module _ (cost : ℕ → Bool → ℕ) (k : ℕ) (work next metrics costs new : 
       let g : one (coming s d (four k)) ≡ s / 8 = ap one (put-same x (four k) (eqb (s / 8) 1)) ∙ one-eqb (s / 8) (omega arith) in
       let v : state k (coming s d) + 16 * one (coming s d (four k)) ≡ 2 * (s % 8) + d + 16 * (s / 8) = omega arith in
       let e : getD costs (label (state k (coming s d) + 16 * one (coming s d (four k)))) 0 ≡ getD costs (label (2 * (s % 8) + d + 16 * (s / 8))) 0 =
-          ap (λ u. getD costs (label u) 0) v in
+      ap (λ u. getD costs (label u) 0) v in
       omega arith
 
   -- the bit that drops out
@@ -185,17 +185,20 @@ module _ (cost : ℕ → Bool → ℕ) (k : ℕ) (work next metrics costs new : 
   -- what came is the survivor, and its metric stands
   survives : (s d : ℕ) → s < 16 → d < 2 → decisions / 2 ^ s % 2 ≡ d → Best cost (suc k) (coming s d) → getD new s 0 ≡ candidate metrics costs s d
       → Best cost (suc k) (traced next (suc k) s) × (getD new s 0 ≡ path-cost cost (suc k) (traced next (suc k) s))
-  survives s d h l e best m =
-      (best-agree cost (suc k) (coming s d) (traced next (suc k) s) (traced-coming s d e) best,
-       m ∙ (sym (coming-cost s d h l) ∙ cost-agree cost (suc k) (coming s d) (traced next (suc k) s) (traced-coming s d e)))
+  survives s d h l e best m = (
+    best-agree cost (suc k) (coming s d) (traced next (suc k) s) (traced-coming s d e) best,
+    m ∙ (sym (coming-cost s d h l) ∙ cost-agree cost (suc k) (coming s d) (traced next (suc k) s) (traced-coming s d e)),
+  )
 
   pub step : Survivors cost (suc k) next new
   step s h = go (ltb (candidate metrics costs s 1) (candidate metrics costs s 0)) refl
     where
       zeros : coming s 0 k ≡ false
       zeros = one-inj (coming s 0 k) false (drops s 0 h (omega arith))
+
       ones : coming s 1 k ≡ true
       ones = one-inj (coming s 1 k) true (drops s 1 h (omega arith))
+
       go : (b : Bool) → ltb (candidate metrics costs s 1) (candidate metrics costs s 0) ≡ b
           → Best cost (suc k) (traced next (suc k) s) × (getD new s 0 ≡ path-cost cost (suc k) (traced next (suc k) s))
       go true t =
@@ -217,9 +220,10 @@ module _ (cost : ℕ → Bool → ℕ) (k : ℕ) (work next metrics costs new : 
 pub begins : (cost : ℕ → Bool → ℕ) (work metrics : List ℕ) → ((s : ℕ) → s < 16 → getD metrics s 0 ≡ begin-cost s) → Survivors cost 0 work metrics
 unfolding path-cost value
 begins cost work metrics h s l =
-    let e = traced-state work 0 s l in
-    (λ y p. let b : begin-cost (state 0 y) ≡ begin-cost (state 0 (traced work 0 s)) = ap begin-cost p in (omega arith, λ _. omega arith),
-     h s l ∙ (ap begin-cost (sym e) ∙ sym (add-zero _)))
+    let e = traced-state work 0 s l in (
+      λ y p. let b : begin-cost (state 0 y) ≡ begin-cost (state 0 (traced work 0 s)) = ap begin-cost p in (omega arith, λ _. omega arith),
+      h s l ∙ (ap begin-cost (sym e) ∙ sym (add-zero _)),
+    )
 
 -- the metrics before the first step
 pub begin-metrics : (s : ℕ) → s < 16 → getD {A = ℕ} (0 ∷ replicate 15 (2 ^ 30)) s 0 ≡ begin-cost s

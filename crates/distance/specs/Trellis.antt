@@ -108,7 +108,7 @@ candidate metrics costs s d = getD metrics (2 * (s % 8) + d) 0 + getD costs (lab
 abbrev pub Chosen : List ℕ → List ℕ → List ℕ → ℕ → ℕ → Type 0
 Chosen metrics costs new decisions s =
     (getD new s 0 ≡ cond (ltb (candidate metrics costs s 1) (candidate metrics costs s 0)) (candidate metrics costs s 1) (candidate metrics costs s 0))
-        × (decisions / 2 ^ s % 2 ≡ one (ltb (candidate metrics costs s 1) (candidate metrics costs s 0)))
+    × (decisions / 2 ^ s % 2 ≡ one (ltb (candidate metrics costs s 1) (candidate metrics costs s 0)))
 
 -- the octet at i that a path holds: its lower four bits are the state after step 8i + 4, its upper four that after 8i + 8
 abbrev pub octet : ℕ → (ℕ → Bool) → ℕ

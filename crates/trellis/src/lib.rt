@@ -45,8 +45,22 @@ fn label_costs<S: SoftBits>(source: &S, step: usize) -> [u32; 16]
     let [f0, f1, f2, f3] = pair_costs(a0, a1, b0, b1);
     let [l0, l1, l2, l3] = pair_costs(c0, c1, d0, d1);
     [
-        f0 + l0, f1 + l0, f2 + l0, f3 + l0, f0 + l1, f1 + l1, f2 + l1, f3 + l1, f0 + l2, f1 + l2,
-        f2 + l2, f3 + l2, f0 + l3, f1 + l3, f2 + l3, f3 + l3,
+        f0 + l0,
+        f1 + l0,
+        f2 + l0,
+        f3 + l0,
+        f0 + l1,
+        f1 + l1,
+        f2 + l1,
+        f3 + l1,
+        f0 + l2,
+        f1 + l2,
+        f2 + l2,
+        f3 + l2,
+        f0 + l3,
+        f1 + l3,
+        f2 + l3,
+        f3 + l3,
     ]
 }
 
@@ -66,7 +80,11 @@ fn cheaper(first: u32, second: u32) -> (u32, bool)
     ensures metric { λ r. ⌜ r .0 ≡ cond (ltb second first) second first ⌝ }
     ensures turned { λ r. ⌜ r .1 ≡ ltb second first ⌝ }
 {
-    if second < first { (second, true) } else { (first, false) }
+    if second < first {
+        (second, true)
+    } else {
+        (first, false)
+    }
 }
 
 // What a step leaves: the metric of each state, and its decision bit.
@@ -169,7 +187,12 @@ fn search<S: SoftBits>(source: &S, text: &mut [u8], work: &mut [u16]) -> u32
 // Searches for the text of m octets that lies nearest to what the source heard: of all strings of m octets the one that
 // costs least, and of equally cheap ones the one with the smaller octet at the last place where they differ. Writes it
 // into the first places of `text`, and answers its distance. It works in `work`, a place for each step.
-pub fn nearest_text<S: SoftBits>(source: &S, m: usize, text: &mut [u8], work: &mut [u16]) -> Result<u32, Refusal>
+pub fn nearest_text<S: SoftBits>(
+    source: &S,
+    m: usize,
+    text: &mut [u8],
+    work: &mut [u16],
+) -> Result<u32, Refusal>
     ensures answer { λ r. ⌜ r ≡ search-answer m (length (now (text .entry))) (length (now (work .entry))) (distance (cost (now (source .entry))) (take m (now (text .exit)))) ⌝ }
     ensures memory { λ r. ⌜ now (text .exit) ≡ after r (take m (now (text .exit))) (now (text .entry)) ⌝ }
     ensures working { λ r. ⌜ (length (now (work .exit)) ≡ length (now (work .entry))) × (isOk r ≡ false → now (work .exit) ≡ now (work .entry)) ⌝ }

@@ -13,7 +13,9 @@ use std::time::Instant;
 use trellis::nearest_text;
 
 const OCTETS: usize = 240;
+
 const CODED_BITS: usize = 7_696;
+
 const STEPS: usize = 1_924;
 
 // The octet at i of the text that is searched for.
@@ -47,12 +49,7 @@ fn hear(heard: &mut [u8]) -> Result<(), Refusal> {
 }
 
 // Searches again and again, with one level a little changed each time.
-fn repeat(
-    rounds: u32,
-    heard: &mut [u8],
-    text: &mut [u8],
-    work: &mut [u16],
-) -> Result<(), Refusal> {
+fn repeat(rounds: u32, heard: &mut [u8], text: &mut [u8], work: &mut [u16]) -> Result<(), Refusal> {
     for round in 0..rounds {
         if let Some(level) = heard.get_mut(round as usize % CODED_BITS) {
             *level ^= 1;

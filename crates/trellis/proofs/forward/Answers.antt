@@ -19,24 +19,26 @@ loop-step-holds g c =
 pub advance-next-requires : need.advance-next-requires
 advance-next-requires g c κs =
     let cost = g .S·SoftBits .cost (c .args .source .now) in
-    let k = c .loop-step .step in
-    (metric-small cost k (c .loop-step .inv .1) (omega arith) (c .loop-step .work) (c .loop-step .metrics) (c .loop-step .inv .0),
-     λ q h.
-        let e = c .label-costs-costs .ensures .priced q h in
-        let s = label-cost-small cost k (c .label-costs-costs .ensures .bounded (c .loop-step .inv .1)) q in
-        omega arith)
+    let k = c .loop-step .step in (
+      metric-small cost k (c .loop-step .inv .1) (omega arith) (c .loop-step .work) (c .loop-step .metrics) (c .loop-step .inv .0),
+      λ q h.
+          let e = c .label-costs-costs .ensures .priced q h in
+          let s = label-cost-small cost k (c .label-costs-costs .ensures .bounded (c .loop-step .inv .1)) q in
+          omega arith,
+    )
 
 pub loop-step-again : need.loop-step-again
 loop-step-again g c =
     let cost = g .S·SoftBits .cost (c .args .source .now) in
     let k = c .loop-step .step in
     let work = c .loop-step .work in
-    let decisions = c .advance-next .result .decisions in
-    (subst (λ n. Survivors cost n (set work k decisions) (c .advance-next .result .metrics)) (sym (add-one k))
-    (step cost k work (set work k decisions) (c .loop-step .metrics) (c .label-costs-costs .result) (c .advance-next .result .metrics) decisions
-        (c .loop-step .inv .0) (c .label-costs-costs .ensures .priced)
-        (λ j h. getD-set-other work k j decisions 0 (omega arith)) (getD-set-same work k decisions 0 (omega arith)) (c .advance-next .ensures)),
-     c .label-costs-costs .ensures .bounded (c .loop-step .inv .1))
+    let decisions = c .advance-next .result .decisions in (
+      subst (λ n. Survivors cost n (set work k decisions) (c .advance-next .result .metrics)) (sym (add-one k))
+          (step cost k work (set work k decisions) (c .loop-step .metrics) (c .label-costs-costs .result) (c .advance-next .result .metrics) decisions
+          (c .loop-step .inv .0) (c .label-costs-costs .ensures .priced)
+          (λ j h. getD-set-other work k j decisions 0 (omega arith)) (getD-set-same work k decisions 0 (omega arith)) (c .advance-next .ensures)),
+      c .label-costs-costs .ensures .bounded (c .loop-step .inv .1),
+    )
 
 pub returns : need.returns
 returns g c =

@@ -30,7 +30,7 @@ returns g c =
     let front : take m all ≡ found = take-at found (drop (m - 0) text) m size in
     let past-it : m - 0 ≡ length found = omega arith in
     let near : Nearest cost m (take m all) =
-        subst (λ t. Nearest cost m t) (sym front) (subst (λ n. Nearest cost n found) part (c .search .ensures .nearest)) in
+    subst (λ t. Nearest cost m t) (sym front) (subst (λ n. Nearest cost n found) part (c .search .ensures .nearest)) in
     let short = ltb (length text) m || ltb (length work) (8 * m + 4) in
     let answer = Ok (distance cost (take m all)) in
     let told = text-past m tt _ (refused-when short MemoryTooShort answer) (c .in-Continue-check-length .ensures tt) in

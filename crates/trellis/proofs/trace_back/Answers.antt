@@ -20,12 +20,13 @@ loop-i-again c =
     let low = c .steps-back-low .result in
     let next : i ≡ suc o = omega arith in
     let agree = c .loop-i .inv .1 in
-    let text = c .loop-i .text in
-    (low-below work path i o (c .loop-i .state) high low next agree (c .steps-back-high .ensures) (c .steps-back-low .ensures),
-     octet-agree work path i o (c .loop-i .state) high low next agree (c .steps-back-high .ensures) (c .steps-back-low .ensures),
-     λ j p l. ⊎-elim
-        (λ e. subst (λ n. getD (set text o (low + 16 * high)) n 0 ≡ octet n path) (sym e)
-            (getD-set-same text o (low + 16 * high) 0 (omega arith)
-                ∙ octet-back work path i o (c .loop-i .state) high low next agree (c .steps-back-high .ensures) (c .steps-back-low .ensures)))
-        (λ ne. getD-set-other text o j (low + 16 * high) 0 ne ∙ c .loop-i .inv .2 j (omega arith) l)
-        (cases-eq j o))
+    let text = c .loop-i .text in (
+      low-below work path i o (c .loop-i .state) high low next agree (c .steps-back-high .ensures) (c .steps-back-low .ensures),
+      octet-agree work path i o (c .loop-i .state) high low next agree (c .steps-back-high .ensures) (c .steps-back-low .ensures),
+      λ j p l. ⊎-elim
+          (λ e. subst (λ n. getD (set text o (low + 16 * high)) n 0 ≡ octet n path) (sym e)
+          (getD-set-same text o (low + 16 * high) 0 (omega arith)
+          ∙ octet-back work path i o (c .loop-i .state) high low next agree (c .steps-back-high .ensures) (c .steps-back-low .ensures)))
+          (λ ne. getD-set-other text o j (low + 16 * high) 0 ne ∙ c .loop-i .inv .2 j (omega arith) l)
+          (cases-eq j o),
+    )

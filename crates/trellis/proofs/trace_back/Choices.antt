@@ -9,4 +9,4 @@ use Rattle.trellis.proofs.trace_back.Given as given
 abbrev pub Inv-loop-i : given.InvT-loop-i
 Inv-loop-i l =
     (l .state < 16) × Agree (four (four (8 * l .i))) (traced (l .work) (length (l .work)) 0) (traced (l .work) (four (8 * l .i)) (l .state))
-        × ((j : ℕ) → l .i ≤ j → j < length (l .entry .text) → getD (l .text) j 0 ≡ octet j (traced (l .work) (length (l .work)) 0))
+    × ((j : ℕ) → l .i ≤ j → j < length (l .entry .text) → getD (l .text) j 0 ≡ octet j (traced (l .work) (length (l .work)) 0))

@@ -29,5 +29,5 @@ returns g c =
     let s = c .args .stage .now in
     let is = find-answered (held (c .args .self .now)) (meaning-of (g .M·Stage .takes s) (g .M·Stage .size s) (g .M·Stage .at s)) (g .M·MarkedStage .markers s) (c .args .m) (c .in-Continue-n .n) (sym (c .in-Continue-n .ensures tt)) in
     let accepted : find-answer (held (c .args .self .now)) (meaning-of (g .M·Stage .takes s) (g .M·Stage .size s) (g .M·Stage .at s)) (g .M·MarkedStage .markers s) (c .args .m) ≡ Ok (c .in-Continue-best .best) =
-      is ∙ sym (c .in-Continue-best .ensures tt) in
+    is ∙ sym (c .in-Continue-best .ensures tt) in
     record { answer = sym accepted; after = found-follows (c .args .self .now) _ _ _ (c .args .m) (c .in-Continue-best .best) refl refl refl accepted }
