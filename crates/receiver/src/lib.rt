@@ -4,6 +4,9 @@ mod history;
 mod memory;
 
 pub use history::Answer;
+pub use history::AnswerDebug;
+pub use history::AnswerEq;
+pub use history::AnswerPartialEq;
 pub use history::Call;
 pub use history::play;
 pub use memory::GREATEST_CAPACITY;
