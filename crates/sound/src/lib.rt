@@ -3,7 +3,9 @@ ghost use mathlib.Core.Path.{_≡_};
 ghost use Prim.Native.Nat.{_+_, _*_, _<_, _^_};
 ghost use lib.ListN.{length};
 ghost use Rattle.refusal.specs.Answer.{after};
-ghost use Rattle.sound.specs.Wave.{header-of, wave-file, wave-answer};
+ghost use mir.Syntax.{w16};
+ghost use mir.Val.{ofZ};
+ghost use Rattle.sound.specs.Wave.{header-of, two-octets, wave-file, wave-answer};
 use refusal::Refusal;
 
 // The most samples whose octets a header can tell.
@@ -66,6 +68,13 @@ fn header(size: u32) -> [u8; 44]
     ]
 }
 
+// A sample in two's complement, the lowest octet first.
+fn octets(sample: i16) -> [u8; 2]
+    ensures { λ r. ⌜ r ≡ two-octets (ofZ w16 sample) ⌝ }
+{
+    sample.to_le_bytes()
+}
+
 // Writes the sound file of the samples into the first places of `out` and answers its length.
 pub fn write_wave(samples: &[i16], out: &mut [u8]) -> Result<usize, Refusal>
     ensures answer { λ r. ⌜ r ≡ wave-answer (now (samples .entry)) (length (now (out .entry))) ⌝ }
@@ -78,7 +87,7 @@ pub fn write_wave(samples: &[i16], out: &mut [u8]) -> Result<usize, Refusal>
     let header = header(2 * count.min(MOST_TOLD) as u32);
     out[0..HEADER].copy_from_slice(&header);
     for i in 0..count {
-        out[HEADER + 2 * i..HEADER + 2 * i + 2].copy_from_slice(&samples[i].to_le_bytes());
+        out[HEADER + 2 * i..HEADER + 2 * i + 2].copy_from_slice(&octets(samples[i]));
     }
     Ok(HEADER + 2 * count)
 }

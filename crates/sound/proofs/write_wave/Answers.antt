@@ -43,7 +43,7 @@ loop-i-again c =
     let start = putMid 0 44 (c .args .out .now) (c .copy-from-slice .last .self) in
     let part = c .copy-from-slice-in-loop-i .last .self in
     let held : toZ w16 (ofZ w16 (getD (c .args .samples .now) i (pos 0))) ≡ getD (c .args .samples .now) i (pos 0) = search needs in
-    let is : part ≡ f i = c .copy-from-slice-in-loop-i .ensures .after ∙ c .to-le-bytes .ensures ∙ ap (λ z. two-octets (ofZ w16 z)) held in
+    let is : part ≡ f i = c .copy-from-slice-in-loop-i .ensures .after ∙ c .octets .ensures ∙ ap (λ z. two-octets (ofZ w16 z)) held in
     let long : length before ≡ 44 + 2 * i = length-append header (joined f (counting 0 i)) ∙ (λ x. header-length (told-size (length (c .args .samples .now))) x + length-joined f 2 (λ _. refl) i x) in
     let two : 44 + 2 * i + 2 - (44 + 2 * i) ≡ 2 = omega arith in
     (λ x. putMid (44 + 2 * i) (two x) (c .loop-i .inv x) part)
