@@ -36,25 +36,25 @@ fn imprint<M: MarkedStage>(
     Ok(())
 }
 
-// The last start at which a burst of m octets can stand among so many values: the search tries all before it.
-fn found_at_the_end(m: usize) -> Result<(usize, i32), Refusal> {
-    let pile = usual_pile();
+// What is found where the markers of a burst stand at the last start there is, so that the search tries every one.
+fn found_at_the_end<M: MarkedStage>(pile: &M, m: usize) -> Result<(usize, i32), Refusal> {
     let n = coded_count(m)?;
     let start = GREATEST_CAPACITY.saturating_sub(pile.length(n)?);
     let mut values = [0i8; GREATEST_CAPACITY];
-    imprint(&mut values, &pile, n, start)?;
+    imprint(&mut values, pile, n, start)?;
     let mut memory = [0i8; GREATEST_CAPACITY];
     let mut receiver = Receiver::open(&mut memory);
     receiver.hear(&values)?;
-    receiver.find(&pile, m)
+    receiver.find(pile, m)
 }
 
 fn main(rt: LibcRuntime) -> io::Result<()> {
     let mut word = [0u8; 16];
     let timed = rt.arg(1, &mut word).is_ok();
+    let pile = usual_pile();
     for m in [1, 240] {
         let begun = Instant::now(&rt)?;
-        match found_at_the_end(m) {
+        match found_at_the_end(&pile, m) {
             Ok((start, fit)) => println!(rt, "{m} octets: start {start}, fit {fit}")?,
             Err(refusal) => println!(rt, "{m} octets: {refusal}")?,
         }
