@@ -161,31 +161,40 @@ fn least_noise_that_goes_astray() -> Result<(), Fail> {
     Ok(())
 }
 
+// The number of octets, the places of text memory and of working memory, and the refusal.
+const REFUSED: [(usize, usize, usize, Refusal); 5] = [
+    (0, 0, 0, Refusal::EmptyText),
+    (241, 0, 0, Refusal::TextTooLong),
+    (240, 239, 1_924, Refusal::MemoryTooShort),
+    (240, 240, 1_923, Refusal::MemoryTooShort),
+    (1, 1, 11, Refusal::MemoryTooShort),
+];
+
 #[test]
-fn refusals_in_order() -> Result<(), Fail> {
-    let levels = Levels { levels: &[] };
-    let mut text = [0xA5; 241];
-    let mut work = [0xFFFF; 1_932];
-    check_eq(
-        nearest_text(&levels, 0, &mut text[0..0], &mut work[0..0]),
-        Err(Refusal::EmptyText),
-    )?;
-    check_eq(
-        nearest_text(&levels, 241, &mut text[0..0], &mut work[0..0]),
-        Err(Refusal::TextTooLong),
-    )?;
-    check_eq(
-        nearest_text(&levels, 240, &mut text[0..239], &mut work),
-        Err(Refusal::MemoryTooShort),
-    )?;
-    check_eq(
-        nearest_text(&levels, 240, &mut text, &mut work[0..1_923]),
-        Err(Refusal::MemoryTooShort),
-    )?;
-    check(text == [0xA5; 241])?;
-    check(work == [0xFFFF; 1_932])?;
-    let answer = nearest_text(&levels, 240, &mut text, &mut work[0..1_924]);
-    check_eq(answer, Ok(127 * 7_696))?;
-    check_eq(text.get(239).copied(), Some(0))?;
-    check_eq(text.get(240).copied(), Some(0xA5))
+fn refusals_in_order(rt: LibcRuntime) -> Result<(), Fail> {
+    for (m, places, work_places, refusal) in REFUSED {
+        let mut text = vec![in rt.alloc(); 0xA5u8; places]?;
+        let mut work = vec![in rt.alloc(); 0xFFFFu16; work_places]?;
+        let answer = nearest_text(&Levels { levels: &[] }, m, &mut text, &mut work);
+        check_eq(answer, Err(refusal))?;
+        for octet in text.iter() {
+            check_eq(*octet, 0xA5).note("a refusal wrote text")?;
+        }
+        for number in work.iter() {
+            check_eq(*number, 0xFFFF).note("a refusal wrote working memory")?;
+        }
+    }
+    Ok(())
+}
+
+#[test]
+fn longest_text_of_lost_bits(rt: LibcRuntime) -> Result<(), Fail> {
+    let mut text = vec![in rt.alloc(); 0xA5u8; 241]?;
+    let mut work = vec![in rt.alloc(); 0xFFFFu16; 1_924]?;
+    let answer = nearest_text(&Levels { levels: &[] }, 240, &mut text, &mut work);
+    check_eq(answer, Ok(977_392))?;
+    for (i, octet) in text.iter().enumerate() {
+        check_eq(*octet, if i < 240 { 0 } else { 0xA5 })?;
+    }
+    Ok(())
 }
