@@ -86,3 +86,6 @@ fn main(rt: LibcRuntime) -> Result<(), AnyError> {
         }
     }
 }
+
+#[cfg(test)]
+mod tests;
