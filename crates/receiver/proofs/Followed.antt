@@ -74,10 +74,12 @@ erased_follows before after place n within memory count start same accepted =
 -- a burst was found
 pub found_follows : (before after : Receiver) (pile : Meaning) (markers : ℕ → List Marker) (m : ℕ) (best : ℕ × ℤ) → after.values ≡ before.values → after.count ≡ before.count → after.start ≡ best.0 → find_answer (held before) pile markers m ≡ Ok best → Follows before (finds pile markers m) after
 found_follows before after pile markers m best values count start accepted =
+    let memory : memory_of after ≡ memory_of before = ap (λ v. v.now) values in
+    let standing : take after.count (memory_of after) ≡ take before.count (memory_of before) = rw (memory, count) refl in
     record {
-      state = rw (accepted, values, count, start) refl;
-      memory = rw (values, count) (laid_again (memory_of before) before.count (omega (arith, before.within)));
-      long = ap (λ v. length v.now) values;
+      state = rw accepted (ap (λ v. record { standing = v; start = after.start }) standing ∙ ap (λ s. record { standing = take before.count (memory_of before); start = s }) start);
+      memory = memory ∙ laid_again (memory_of before) before.count (omega (arith, before.within)) ∙ ap (λ v. laid v (memory_of before)) (sym standing);
+      long = ap length memory;
       same = ap (λ x. x.ghost_name) values;
     }
 

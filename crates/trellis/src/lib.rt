@@ -44,8 +44,8 @@ fn pair_costs(a0: u16, a1: u16, b0: u16, b1: u16) -> [u32; 4]
 // What each combination of the four coded bits of a step costs, the first counting 1.
 fn label_costs<S: SoftBits>(source: &S, step: usize) -> [u32; 16]
     requires { step < 2 ^ 60 }
-    ensures priced { (q : ℕ) → q < 16 → slice_index result q ≡ label_cost (cost source.now) step q }
-    ensures bounded { Bounded (cost source.now) step 65535 → Bounded (cost source.now) (step + 1) 65535 }
+    ensures priced { (q : ℕ) → q < 16 → slice_index result q ≡ label_cost (S.SoftBits.cost source.now) step q }
+    ensures bounded { Bounded (S.SoftBits.cost source.now) step 65535 → Bounded (S.SoftBits.cost source.now) (step + 1) 65535 }
 {
     let (a0, a1) = source.costs(4 * step);
     let (b0, b1) = source.costs(4 * step + 1);
@@ -138,9 +138,9 @@ fn into_zero_state(metrics: &[u32; 16]) -> u32
 // costs.
 fn forward<S: SoftBits>(source: &S, work: &mut [u16]) -> u32
     requires { length work.old ≤ 1924 }
-    ensures best { Best (cost source.now) (length work.old) (traced work.new (length work.old) 0) }
-    ensures metric { result ≡ path_cost (cost source.now) (length work.old) (traced work.new (length work.old) 0) }
-    ensures bounded { Bounded (cost source.now) (length work.old) 65535 }
+    ensures best { Best (S.SoftBits.cost source.now) (length work.old) (traced work.new (length work.old) 0) }
+    ensures metric { result ≡ path_cost (S.SoftBits.cost source.now) (length work.old) (traced work.new (length work.old) 0) }
+    ensures bounded { Bounded (S.SoftBits.cost source.now) (length work.old) 65535 }
 {
     let mut metrics = [UNREACHED; 16];
     metrics[0] = 0;
@@ -197,8 +197,8 @@ fn trace_back(work: &[u16], text: &mut [u8])
 // The search where the memory fits: both passes, over as many octets as `text` has places.
 fn search<S: SoftBits>(source: &S, text: &mut [u8], work: &mut [u16]) -> u32
     requires { (length text.old ≤ 240) × (length work.old ≡ 8 * length text.old + 4) }
-    ensures nearest { Nearest (cost source.now) (length text.old) text.new }
-    ensures value { result ≡ distance (cost source.now) text.new }
+    ensures nearest { Nearest (S.SoftBits.cost source.now) (length text.old) text.new }
+    ensures value { result ≡ distance (S.SoftBits.cost source.now) text.new }
 {
     let metric = forward(source, work);
     trace_back(work, text);
@@ -222,12 +222,12 @@ pub fn nearest_text<S: SoftBits>(
     text: &mut [u8],
     work: &mut [u16],
 ) -> Result<u32, Refusal>
-    ensures answer { result ≡ search_answer m (length text.old) (length work.old) (distance (cost source.now) (take m text.new)) }
+    ensures answer { result ≡ search_answer m (length text.old) (length work.old) (distance (S.SoftBits.cost source.now) (take m text.new)) }
     ensures memory { text.new ≡ after result (take m text.new) text.old }
     ensures working { (length work.new ≡ length work.old) × (is_ok result ≡ false → work.new ≡ work.old) }
-    ensures nearest { is_ok result ≡ true → Nearest (cost source.now) m (take m text.new) }
-    ensures only { is_ok result ≡ true → (other : List ℕ) → Nearest (cost source.now) m other → take m text.new ≡ other }
-    ensures corrected { is_ok result ≡ true → (sent : List ℕ) (heard : ℕ → Heard) → HeardWithin 15 (cost source.now) m sent heard → take m text.new ≡ sent }
+    ensures nearest { is_ok result ≡ true → Nearest (S.SoftBits.cost source.now) m (take m text.new) }
+    ensures only { is_ok result ≡ true → (other : List ℕ) → Nearest (S.SoftBits.cost source.now) m other → take m text.new ≡ other }
+    ensures corrected { is_ok result ≡ true → (sent : List ℕ) (heard : ℕ → Heard) → HeardWithin 15 (S.SoftBits.cost source.now) m sent heard → take m text.new ≡ sent }
 {
     check_length(m)?;
     let steps = steps_for(m);

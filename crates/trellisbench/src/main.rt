@@ -4,6 +4,7 @@ mod levels;
 #[cfg(test)]
 mod trials;
 
+use anyhow::anyhow;
 use code::encode;
 use levels::{Levels, full};
 use refusal::Refusal;
@@ -96,6 +97,6 @@ fn main(rt: HostRuntime) -> anyhow::Result<()> {
     };
     match run(&rt, rounds)? {
         Ok(()) => Ok(()),
-        Err(refusal) => Err(refusal.sentence().into()),
+        Err(refusal) => Err(anyhow!("{}", refusal.sentence())),
     }
 }

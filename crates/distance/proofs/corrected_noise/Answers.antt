@@ -5,4 +5,4 @@ use Rattle.distance.proofs.corrected_noise.Goals as goal
 use Rattle.distance.specs.Apart.{Corrects}
 
 pub returns : goal.returns
-returns c = (c.most-noise.ensures, subst (λ n. Corrects n) (sym c.most-noise.ensures) corrects_fifteen)
+returns c = (c.most_noise.ensures, subst (λ n. Corrects n) (sym c.most_noise.ensures) corrects_fifteen)

@@ -5,4 +5,4 @@ use Rattle.distance.proofs.least_separation.Goals as goal
 use Rattle.distance.specs.Apart.{Apart}
 
 pub returns : goal.returns
-returns c = (c.least-weight.ensures, subst (λ n. Apart n) (sym c.least-weight.ensures) apart_sixteen)
+returns c = (c.least_weight.ensures, subst (λ n. Apart n) (sym c.least_weight.ensures) apart_sixteen)

@@ -15,17 +15,17 @@ loop-index-preserved g c =
     let inv = c.loop-index.invariant in
     let marks = g.M.MarkedStage.markers s in
     let below : i < length (marks n) = omega arith in
-    let told = told_marker (g.M.Stage.takes s) marks n i c.marker.result c.in-ok-marker.marker c.requires.takes below c.marker.ensures.value c.in-ok-marker.was in
+    let told = told_marker (g.M.Stage.takes s) marks n i c.marker.result c.in_ok-marker.marker c.requires.takes below c.marker.ensures.value c.in_ok-marker.was in
     let most = (g.M.Stage.homes s).most n c.requires.takes in
     let few : length (marks n) ≤ 32768 =
-    few_markers (meaning_of (g.M.Stage.takes s) (g.M.Stage.size s) (g.M.Stage.at s)) marks n c.requires.takes most c.requires.apart c.in-ok-marker.ensures.fixed in
-    let v : ℤ = get_or c.args.values.now (c.args.start + c.in-ok-marker.marker.place) (pos 0) in
+    few_markers (meaning_of (g.M.Stage.takes s) (g.M.Stage.size s) (g.M.Stage.at s)) marks n c.requires.takes most c.requires.apart c.in_ok-marker.ensures.fixed in
+    let v : ℤ = get_or c.args.values.now (c.args.start + c.in_ok-marker.marker.place) (pos 0) in
     let fits : SFits w8 v = search rules in
-    let agrees : c.agreement-sum.result ≡ agreement c.args.values.now c.args.start c.in-ok-marker.marker =
-    c.agreement-sum.ensures.value ∙ ap (λ z. cond c.in-ok-marker.marker.bit z (neg_ℤ z)) (to_z-of_z w8 v fits) in
+    let agrees : c.agreement-sum.result ≡ agreement c.args.values.now c.args.start c.in_ok-marker.marker =
+    c.agreement-sum.ensures.value ∙ ap (λ z. cond c.in_ok-marker.marker.bit z (neg_ℤ z)) (to_z-of_z w8 v fits) in
     let kept = sum_kept _ c.agreement-sum.result i inv.3 inv.1 inv.2 c.agreement-sum.ensures.least c.agreement-sum.ensures.most in
     rw kept (
-      fit_more c.args.values.now (marks n) c.args.start i c.in-ok-marker.marker _ _ below told inv.0 agrees,
+      fit_more c.args.values.now (marks n) c.args.start i c.in_ok-marker.marker _ _ below told inv.0 agrees,
       sum_low _ _ i inv.1 c.agreement-sum.ensures.least,
       sum_high _ _ i inv.2 c.agreement-sum.ensures.most,
       omega arith,

@@ -18,15 +18,15 @@ loop-frame-preserved c =
     let out = c.args.out.now in
     let within : (i : ℕ) → i < 40 → tone_sample (frame es n) i ≡ sample es (40 * n + i) = λ i h. sym (λ x. tone_sample (frame es ((ap (λ (p : ℕ). (p + i) / 40) (mul_comm 40 n) ∙ div-mul-add n 40 i h) x)) ((ap (λ (p : ℕ). (p + i) % 40) (mul_comm 40 n) ∙ mod-mul-add n 40 i h) x)) in
     let size : 40 * n + 40 - 40 * n ≡ 40 = omega arith in
-    (λ x. put_mid (40 * n) (size x) (c.loop-frame.invariant x) c.play-frame.new.frame)
-    ∙ filled_part (sample es) (tone_sample (frame es n)) (40 * n) 40 (40 * (n + 1)) out c.play-frame.new.frame (omega arith) (c.play-frame.ensures ∙ ap (λ t. map (tone_sample t) (range_with_len 0 40)) c.of-tone.ensures) within
+    (λ x. put_mid (40 * n) (size x) (c.loop-frame.invariant x) c.play_frame.new.frame)
+    ∙ filled_part (sample es) (tone_sample (frame es n)) (40 * n) 40 (40 * (n + 1)) out c.play_frame.new.frame (omega arith) (c.play_frame.ensures ∙ ap (λ t. map (tone_sample t) (range_with_len 0 40)) c.of-tone.ensures) within
 
 pub returns : goal.returns
 returns c =
     let es = c.args.elements.now in
     let out = c.args.out.now in
     let n : ℕ = length es in
-    let good = passed (bad es) BadElements (Ok tt) tt c.in-ok-check-elements.ensures in
+    let good = passed (bad es) BadElements (Ok tt) tt c.in_ok-check_elements.ensures in
     let paired : n % 2 ≡ 1 → ⊥ = eqb-false (n % 2) 1 (or_parts (eqb (n % 2) 1) (strange es) good).0 in
     let even : 40 * (n / 2) ≡ 20 * n = omega (arith, paired) in
     let room = le-ltb (length out) (20 * n) (omega (arith, even)) in

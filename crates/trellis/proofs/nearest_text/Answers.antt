@@ -25,7 +25,7 @@ returns g c =
     subst (λ t. Nearest cost m t) (sym front) (subst (λ n. Nearest cost n found) part c.search.ensures.nearest) in
     let short = ltb (length text) m || ltb (length work) (8 * m + 4) in
     let answer = Ok (distance cost (take m all)) in
-    let told = text_past m tt _ (refused_when short MemoryTooShort answer) c.in-ok-check-length.ensures in
+    let told = text_past m tt _ (refused_when short MemoryTooShort answer) c.in_ok-check_length.ensures in
     let room = or_from (ltb (length text) m) (ltb (length work) (8 * m + 4)) (le-ltb (length text) m (omega arith)) (le-ltb (length work) (8 * m + 4) (omega arith)) in
     record {
       answer = ap Ok (c.search.ensures.value ∙ ap (distance cost) (sym front)) ∙ (sym (past short MemoryTooShort answer room) ∙ sym told.0);

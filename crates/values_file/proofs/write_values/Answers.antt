@@ -12,9 +12,9 @@ loop-i-preserved c =
     let f = frame_line c.args.elements.now in
     let first = first_line c.args.m in
     let before = first ++ flat_map f (range_with_len 0 i) in
-    let start = put_mid 0 3 c.args.out.now c.copy-from-slice.new.self in
-    let part = c.copy-from-slice-in-loop-i.new.self in
-    let is : part ≡ f i = c.copy-from-slice-in-loop-i.ensures.after ∙ c.frame-line-line.ensures in
+    let start = put_mid 0 3 c.args.out.now c.copy_from_slice.new.self in
+    let part = c.copy_from_slice-in-loop-i.new.self in
+    let is : part ≡ f i = c.copy_from_slice-in-loop-i.ensures.after ∙ c.frame_line-line.ensures in
     let long : length before ≡ 3 + 5 * i = length-append first (flat_map f (range_with_len 0 i)) ∙ ap (λ n. 3 + n) (length-joined f 5 (λ _. refl) i) in
     let five : 8 + 5 * i - (3 + 5 * i) ≡ 5 = omega arith in
     (λ x. put_mid (3 + 5 * i) (five x) (c.loop-i.invariant x) part)

@@ -11,34 +11,34 @@ returns-then-index-above g c =
       value = c.marker.ensures.value
           ∙ marker_above (meaning_of (g.L.Stage.takes lower) (g.L.Stage.size lower) (g.L.Stage.at lower))
           (meaning_of (g.U.Stage.takes upper) (g.U.Stage.size upper) (g.U.Stage.at upper))
-          (g.L.MarkedStage.markers lower) (g.U.MarkedStage.markers upper) c.args.n c.in-ok-middle.middle
-          c.in-ok-middle.ensures c.in-ok-above.above c.args.index
-          c.in-ok-above.ensures.count c.if-index-above.true;
-      fixed = c.in-ok-marker-count.ensures.fixed;
+          (g.L.MarkedStage.markers lower) (g.U.MarkedStage.markers upper) c.args.n c.in_ok-middle.middle
+          c.in_ok-middle.ensures c.in_ok-above.above c.args.index
+          c.in_ok-above.ensures.count c.if-index-above.true;
+      fixed = c.in_ok-marker_count.ensures.fixed;
     }
 
-pub returns-in-err-marker : goal.returns-in-err-marker
-returns-in-err-marker g c =
+pub returns-in_err-marker : goal.returns-in_err-marker
+returns-in_err-marker g c =
     let lower = c.args.self.now.lower in
     let upper = c.args.self.now.upper in
     absurd (marker_not_refused (meaning_of (g.L.Stage.takes lower) (g.L.Stage.size lower) (g.L.Stage.at lower))
     (meaning_of (g.U.Stage.takes upper) (g.U.Stage.size upper) (g.U.Stage.at upper))
-    (g.L.MarkedStage.markers lower) (g.U.MarkedStage.markers upper) c.args.n c.in-ok-middle.middle
-    c.in-ok-middle.ensures c.in-ok-above.above c.in-ok-marker-count.field-0 c.args.index
-    c.in-err-marker.field-0.0 c.in-ok-above.ensures.count c.in-ok-marker-count.ensures.count
-    c.if-index-above.false c.if-branch.false c.in-err-marker.ensures.value)
+    (g.L.MarkedStage.markers lower) (g.U.MarkedStage.markers upper) c.args.n c.in_ok-middle.middle
+    c.in_ok-middle.ensures c.in_ok-above.above c.in_ok-marker_count.field-0 c.args.index
+    c.in_err-marker.field-0.0 c.in_ok-above.ensures.count c.in_ok-marker_count.ensures.count
+    c.if-index-above.false c.if-branch.false c.in_err-marker.ensures.value)
 
 pub returns : goal.returns
 returns g c =
     let lower = c.args.self.now.lower in
     let upper = c.args.self.now.upper in
     record {
-      value = c.moved-up.ensures
+      value = c.moved_up.ensures
           ∙ marker_below (meaning_of (g.L.Stage.takes lower) (g.L.Stage.size lower) (g.L.Stage.at lower))
           (meaning_of (g.U.Stage.takes upper) (g.U.Stage.size upper) (g.U.Stage.at upper))
-          (g.L.MarkedStage.markers lower) (g.U.MarkedStage.markers upper) c.args.n c.in-ok-middle.middle
-          c.in-ok-middle.ensures c.in-ok-above.above c.args.index c.in-ok-marker.field-0
-          c.in-ok-above.ensures.count c.in-ok-marker.ensures.value
-          c.in-ok-marker.ensures.fixed c.if-index-above.false;
-      fixed = c.in-ok-marker-count.ensures.fixed;
+          (g.L.MarkedStage.markers lower) (g.U.MarkedStage.markers upper) c.args.n c.in_ok-middle.middle
+          c.in_ok-middle.ensures c.in_ok-above.above c.args.index c.in_ok-marker.field-0
+          c.in_ok-above.ensures.count c.in_ok-marker.ensures.value
+          c.in_ok-marker.ensures.fixed c.if-index-above.false;
+      fixed = c.in_ok-marker_count.ensures.fixed;
     }

@@ -3,15 +3,15 @@ use Rattle.stage.specs.Meaning.{meaning_of}
 use Rattle.stage.proofs.Answers.{content_carried, inverted_there}
 use Rattle.pile.proofs.PileStage.content.Goals as goal
 
-pub returns-in-err-content : goal.returns-in-err-content
-returns-in-err-content g c =
+pub returns-in_err-content-in-Inverted : goal.returns-in_err-content-in-Inverted
+returns-in_err-content-in-Inverted g c =
     let lower = c.args.self.now.lower in
     let upper = c.args.self.now.upper in
     absurd (inverted_there (meaning_of (g.L.Stage.takes lower) (g.L.Stage.size lower) (g.L.Stage.at lower))
     (meaning_of (g.U.Stage.takes upper) (g.U.Stage.size upper) (g.U.Stage.at upper)) (g.U.Stage.homes upper)
-    c.args.n c.args.place c.in-ok-middle.middle c.in-Inverted.j c.in-err-content.field-0.0
-    c.in-ok-middle.ensures (ap Ok (sym c.in-Inverted.is) ∙ c.in-ok-own.ensures)
-    c.in-err-content.ensures)
+    c.args.n c.args.place c.in_ok-middle.middle c.in-Inverted.j c.in_err-content-in-Inverted.field-0.0
+    c.in_ok-middle.ensures (ap Ok (sym c.in-Inverted.is) ∙ c.in_ok-own.ensures)
+    c.in_err-content-in-Inverted.ensures)
 
 pub returns-in-Carried : goal.returns-in-Carried
 returns-in-Carried g c =
@@ -20,5 +20,5 @@ returns-in-Carried g c =
     c.content-in-Carried.ensures
     ∙ content_carried (meaning_of (g.L.Stage.takes lower) (g.L.Stage.size lower) (g.L.Stage.at lower))
     (meaning_of (g.U.Stage.takes upper) (g.U.Stage.size upper) (g.U.Stage.at upper)) (g.U.Stage.homes upper)
-    c.args.n c.args.place c.in-ok-middle.middle c.in-Carried.j
-    c.in-ok-middle.ensures (ap Ok (sym c.in-Carried.is) ∙ c.in-ok-own.ensures)
+    c.args.n c.args.place c.in_ok-middle.middle c.in-Carried.j
+    c.in_ok-middle.ensures (ap Ok (sym c.in-Carried.is) ∙ c.in_ok-own.ensures)

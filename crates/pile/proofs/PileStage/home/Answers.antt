@@ -11,5 +11,5 @@ returns g c =
     ∙ home_through (meaning_of (g.L.Stage.takes lower) (g.L.Stage.size lower) (g.L.Stage.at lower))
     (meaning_of (g.U.Stage.takes upper) (g.U.Stage.size upper) (g.U.Stage.at upper))
     (g.L.Stage.homes lower) (g.U.Stage.homes upper) c.args.n c.args.element
-    c.in-ok-middle.middle c.in-ok-length.field-0 c.in-ok-home.field-0
-    c.in-ok-middle.ensures c.in-ok-length.ensures c.in-ok-home.ensures
+    c.in_ok-middle.middle c.in_ok-length.field-0 c.in_ok-home.field-0
+    c.in_ok-middle.ensures c.in_ok-length.ensures c.in_ok-home.ensures

@@ -11,6 +11,6 @@ returns-in-Find g c =
     let marks = g.M.MarkedStage.markers in
     let r = c.args.self.now in
     record {
-      answer = subst (λ (call : Call g.row.M.Denot). as_reply c.of-found.result ≡ reply (room r) (held r) (as_request meaning marks call)) (sym c.in-Find.is) (c.of-found.ensures ∙ ap (answered (λ best. found best.0 best.1)) c.find.ensures.answer);
+      answer = subst (λ (call : Call g.row.M.Denot). as_reply c.of_found.result ≡ reply (room r) (held r) (as_request meaning marks call)) (sym c.in-Find.is) (c.of_found.ensures ∙ ap (answered (λ best. found best.0 best.1)) c.find.ensures.answer);
       after = subst (λ (call : Call g.row.M.Denot). Follows r (as_request meaning marks call) c.find.new.self) (sym c.in-Find.is) c.find.ensures.after;
     }
