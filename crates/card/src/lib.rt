@@ -1,4 +1,6 @@
 // Card readings to values: what a reading of the line card says of a frame's two elements.
+#![tactic(auto)]
+
 ghost use Rattle.std.specs.Prelude.{◌≡◌, true, false, T, pos, IfOk};
 ghost use Rattle.std.specs.Float.{fin, binary32, float_max};
 ghost use Rattle.std.specs.Float.Ieee.{mul, to_signed, le, lt};

@@ -1,4 +1,6 @@
 // A text's octets as a row of items: enquiries, idles, other characters in UTF-8, and broken octets.
+#![tactic(auto)]
+
 ghost use Rattle.std.specs.Prelude.{◌≡◌, ◌-◌, ◌<◌, List, length, nat_lt, slice_index};
 ghost use Rattle.character.specs.Reader.{Next, OnlyReading, standing, front_item, octets_of, tally_of, holds_enquiry};
 ghost use Rattle.character.specs.Forms.{Room, Within, one_more};

@@ -1,13 +1,13 @@
 -- With twice the wrong coded bits plus the lost ones at most 15, the text sent is nearer than every other: place by place
 -- a difference adds 254 to the gap between the distances, less 508 where the bit is wrong and 254 where it is lost.
 -- Assumes nothing.
-use Rattle.std.proofs.Common.{◌≡◌, ℕ, zero, suc, ◌+◌, ◌*◌, ◌<◌, ◌≤◌, Bool, true, false, cond, List, length, sym, refl, ap, ◌∙◌, subst, arith, lit≤}
+use Rattle.std.proofs.Common.{◌≡◌, ℕ, ◌+◌, ◌*◌, ◌≤◌, Bool, true, false, ap, arith, lit≤}
 use mathlib.Core.Bool.{xor}
 use Rattle.code.specs.Coder.{bit, coded, coded_count}
-use Rattle.distance.specs.Nearest.{total, Octets, distance}
-use Rattle.distance.specs.Apart.{count, Heard, full, wrong, lost, is_wrong, is_lost, heard_cost, HeardWithin, Corrects}
+use Rattle.distance.specs.Nearest.{total, distance}
+use Rattle.distance.specs.Apart.{Heard, full, wrong, lost, is_wrong, is_lost, heard_cost, Corrects}
 use Rattle.distance.specs.Trellis.{one}
-use Rattle.distance.proofs.Totals.{total_ext, total_le, total_add, total_times}
+use Rattle.distance.proofs.Totals.{total_le, total_add, total_times}
 use Rattle.distance.proofs.Separation.{apart_sixteen}
 
 -- the gap at one place

@@ -2,7 +2,7 @@
 -- Assumes nothing.
 use Rattle.std.proofs.Common.{◌≡◌, ℕ, zero, suc, ◌+◌, ◌-◌, ◌*◌, ◌<◌, ◌≤◌, Bool, true, false, List, [], ◌∷◌, get_or, ap, subst, ⊎_elim, arith}
 use Rattle.std.proofs.lemmas.Bool.{cases_lt}
-use Rattle.distance.specs.Trellis.{label_cost, odd, four_cost, Bounded}
+use Rattle.distance.specs.Trellis.{label_cost, Bounded}
 
 -- the four combinations of two coded bits, the first counting 1
 pub record Pairs (p0 p1 q0 q1 : ℕ) (f : List ℕ) : Type 0 where

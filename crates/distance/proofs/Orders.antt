@@ -1,10 +1,10 @@
 -- The order of texts: it is the order of the numbers that their paths spell.
 -- Assumes nothing.
-use Rattle.std.proofs.Common.{◌≡◌, ℕ, zero, suc, ◌+◌, ◌-◌, ◌*◌, ◌^◌, ◌<◌, ◌≤◌, Bool, true, false, cond, ◌⊎◌, List, [], ◌∷◌, length, get_or, sym, refl, ap, ◌∙◌, subst, inl, inr, ⊎_elim, mul-le-mul_right, pow-suc, arith}
+use Rattle.std.proofs.Common.{◌≡◌, ℕ, zero, suc, ◌+◌, ◌*◌, ◌^◌, ◌<◌, ◌≤◌, Bool, true, false, ◌⊎◌, List, length, get_or, sym, ap, ◌∙◌, subst, inl, inr, ⊎_elim, mul-le-mul_right, pow-suc, arith}
 use lib.ListN.{get_or-eq_default}
 use Rattle.std.proofs.lemmas.List.{same_lists, get_or_default}
 use Rattle.std.proofs.lemmas.Bool.{cases_order, cases_lt}
-use Rattle.distance.specs.Nearest.{total, Octets, Earlier, distance, Nearest}
+use Rattle.distance.specs.Nearest.{Octets, Earlier}
 use Rattle.distance.specs.Trellis.{four, one, path, state, value}
 use Rattle.distance.proofs.Paths.{value_suc, value_below}
 use Rattle.distance.proofs.Texts.{octet_of}

@@ -1,13 +1,13 @@
 -- Why the reading is right: the best path into the zero state, traced back, is the path of the nearest text.
 -- Assumes nothing.
-use Rattle.std.proofs.Common.{◌≡◌, ℕ, zero, suc, ◌+◌, ◌-◌, ◌*◌, ◌/◌, ◌%◌, ◌^◌, ◌<◌, ◌≤◌, Bool, true, false, cond, eqb, ◌⊎◌, List, [], ◌∷◌, length, get_or, replicate, sym, refl, ap, ◌∙◌, subst, inl, inr, ⊎_elim, arith, lit<, lit≤}
+use Rattle.std.proofs.Common.{◌≡◌, ℕ, zero, suc, ◌+◌, ◌-◌, ◌*◌, ◌/◌, ◌^◌, ◌<◌, ◌≤◌, Bool, true, false, cond, eqb, ◌⊎◌, List, length, get_or, replicate, sym, refl, ap, ◌∙◌, subst, inl, inr, ⊎_elim, arith, lit<, lit≤}
 use Rattle.std.proofs.lemmas.Bool.{eqb-true, cases_lt, cases_order}
 use lib.ListN.{length-replicate, get_or-replicate, get_or-eq_default}
-use Rattle.distance.specs.Nearest.{total, Octets, distance, Earlier, Nearest}
+use Rattle.distance.specs.Nearest.{Octets, distance, Earlier, Nearest}
 use Rattle.distance.specs.Apart.{Heard, HeardWithin}
 use Rattle.distance.specs.Trellis.{four, one, path, state, window, sent, branch, begin_cost, path_cost, value, Best, octet, traced, Survivors, label_cost, odd, Bounded}
 use Rattle.distance.proofs.Totals.{total_bound}
-use Rattle.distance.proofs.Paths.{Agree, one_le, one_inj, state_agree, cost_agree, value_agree}
+use Rattle.distance.proofs.Paths.{Agree, one_le, one_inj, cost_agree, value_agree}
 use Rattle.distance.proofs.Texts.{cost_of_text, octet_of, path_beyond}
 use Rattle.distance.proofs.Correction.{corrects_fifteen}
 use Rattle.distance.proofs.Traces.{traced_state}

@@ -1,16 +1,13 @@
 -- Texts as paths: what a text's path costs is its distance, and the order of paths is the order of texts.
 -- Assumes nothing.
-use Rattle.std.proofs.Common.{◌≡◌, ℕ, zero, suc, ◌+◌, ◌-◌, ◌*◌, ◌/◌, ◌%◌, ◌^◌, ◌<◌, ◌≤◌, Bool, true, false, cond, eqb, ltb, ◌⊎◌, List, [], ◌∷◌, map, length, get_or, sym, refl, ap, ◌∙◌, subst, inl, inr, ⊎_elim, mul-le-mul_right, pow-suc, zero-add, arith}
+use Rattle.std.proofs.Common.{◌≡◌, ℕ, zero, suc, ◌+◌, ◌*◌, ◌/◌, ◌%◌, ◌^◌, ◌<◌, ◌≤◌, Bool, false, eqb, List, [], ◌∷◌, map, length, get_or, sym, refl, ap, ◌∙◌, zero-add, arith}
 use native.Mathlib.Nat.{suc-sub-suc, sub-zero, zero-div}
 use lib.Dec.{leb-suc-suc, leb-suc-zero}
 use lib.ListN.{get_or-eq_default}
-use Rattle.std.proofs.lemmas.List.{same_lists}
-use Rattle.std.proofs.lemmas.Bool.{cases_order}
 use Rattle.code.specs.Coder.{bit, before, coded, coded_count, sums, parity}
-use Rattle.distance.specs.Nearest.{total, Octets, distance, Earlier}
-use Rattle.distance.specs.Trellis.{four, one, path, state, window, sent, four_cost, branch, begin_cost, path_cost, value}
+use Rattle.distance.specs.Nearest.{total, distance}
+use Rattle.distance.specs.Trellis.{four, one, path, state, window, sent, four_cost, branch, path_cost}
 use Rattle.distance.proofs.Totals.{total_ext, total_four}
-use Rattle.distance.proofs.Paths.{one_le, value_suc, value_below}
 
 before_suc : (b : ℕ → Bool) (i d : ℕ) → before b (suc i) (suc d) ≡ before b i d
 before_suc b i d = rw (leb-suc-suc (suc i) d, suc-sub-suc i d)

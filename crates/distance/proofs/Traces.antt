@@ -1,10 +1,10 @@
 -- The path that the decisions lead back to, and one step of the search.
 -- Assumes nothing.
-use Rattle.std.proofs.Common.{◌≡◌, ℕ, zero, suc, ◌+◌, ◌-◌, ◌*◌, ◌/◌, ◌%◌, ◌^◌, ◌<◌, ◌≤◌, Bool, true, false, cond, eqb, ltb, ◌⊎◌, List, [], ◌∷◌, length, get_or, replicate, sym, refl, ap, ◌∙◌, subst, inl, inr, ⊎_elim, add-zero, arith}
+use Rattle.std.proofs.Common.{◌≡◌, ℕ, zero, suc, ◌+◌, ◌*◌, ◌/◌, ◌%◌, ◌^◌, ◌<◌, ◌≤◌, Bool, true, false, cond, eqb, ltb, List, [], ◌∷◌, get_or, replicate, sym, refl, ap, ◌∙◌, subst, add-zero, arith}
 use lib.Dec.{eqb-suc-zero}
 use lib.ListN.{get_or-replicate}
 use Rattle.std.proofs.lemmas.Bool.{eq-eqb, ne_eqb, ltb-true, ltb-false, cond-true, cond-false}
-use Rattle.distance.specs.Trellis.{four, one, state, begin_cost, window, sent, four_cost, branch, path_cost, value, Best, put, back, four_back, octet, traced, Survivors, odd, label_cost, bits_of, label, candidate, Chosen}
+use Rattle.distance.specs.Trellis.{four, one, state, begin_cost, sent, four_cost, branch, path_cost, value, Best, put, back, four_back, octet, traced, Survivors, odd, label_cost, bits_of, label, candidate, Chosen}
 use Rattle.distance.proofs.Paths.{Agree, one_le, one_inj, state_agree, cost_agree, best_agree, cost_suc, stays, turns}
 
 pub put_same : (c : ℕ → Bool) (n : ℕ) (b : Bool) → put c n b n ≡ b

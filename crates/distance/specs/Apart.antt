@@ -3,7 +3,7 @@
 use Rattle.std.specs.Prelude.{◌≡◌, ℕ, ◌+◌, ◌*◌, ◌<◌, ◌≤◌, Bool, true, false, cond, List, ◌≢◌}
 use Rattle.std.specs.Bool.{xor}
 use Rattle.code.specs.Coder.{bit, coded, coded_count}
-use Rattle.distance.specs.Nearest.{total, Octets, distance, Nearest}
+use Rattle.distance.specs.Nearest.{total, Octets, distance}
 
 -- the number of places below n at which the test holds
 abbrev pub count : ℕ → (ℕ → Bool) → ℕ

@@ -1,4 +1,6 @@
 // How far apart coded texts lie, and what follows for the reading. The lemmas on the trellis stand here too.
+#![tactic(auto)]
+
 ghost use Rattle.std.specs.Prelude.{◌≡◌};
 ghost use Rattle.distance.specs.Apart.{Apart, Corrects};
 

@@ -1,4 +1,6 @@
 // A stage that is one of two stages, so that one list can mix stages of different types.
+#![tactic(auto)]
+
 ghost use Rattle.either_stage.specs.Either.{whichever};
 ghost use Rattle.either_stage.specs.Homes.{either_homes};
 

@@ -1,5 +1,7 @@
 // Finds a burst among 32,768 values, for the shortest and for the longest text. With an argument, as `time`, it also
 // prints how long each search took.
+#![tactic(auto)]
+
 use code::coded_count;
 use receiver::{GREATEST_CAPACITY, Receiver};
 use refusal::Refusal;

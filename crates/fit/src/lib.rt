@@ -1,4 +1,6 @@
 // Where a burst stands among the values heard: the start at which a pile's markers fit best.
+#![tactic(auto)]
+
 ghost use Rattle.std.specs.Prelude.{◌≡◌, ◌+◌, ◌<◌, ◌≤◌, T, length, pos, negsuc, neg_ℤ, ◌≤ℤ◌, if◌then◌else◌, Ok};
 ghost use Rattle.stage.specs.Meaning.{meaning_of};
 ghost use Rattle.stage.specs.Marked.{Apart};

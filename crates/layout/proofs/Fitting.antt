@@ -1,7 +1,6 @@
 -- What a stage owes follows from one function that gives each element's place; and so do its markers' laws.
 -- Assumes nothing.
-use Rattle.std.proofs.Common.{◌≡◌, ℕ, ◌<◌, ◌≤◌, Bool, true, T, length, get_or, sym, ap, ◌∙◌, subst, arith}
-use Rattle.stage.specs.declared.Content.{Content}
+use Rattle.std.proofs.Common.{◌≡◌, ℕ, ◌<◌, ◌≤◌, Bool, true, T, sym, ◌∙◌, arith}
 use Rattle.stage.specs.declared.Content.TheVariants.{Fixed}
 use Rattle.stage.specs.Meaning.{Meaning, Homes, Stands, carries, home_of}
 use Rattle.stage.specs.Marked.{Apart, Told, no_marker}

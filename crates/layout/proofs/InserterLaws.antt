@@ -1,17 +1,16 @@
 -- What the inserter owes: where each element stands, by four rows of mutes and whole periods, and nowhere else.
 -- Assumes nothing.
-use Rattle.std.proofs.Common.{◌≡◌, ℕ, zero, suc, ◌+◌, ◌-◌, ◌*◌, ◌/◌, ◌%◌, ◌<◌, ◌≤◌, min, Bool, true, false, cond, not, ◌&&◌, ◌||◌, T, eqb, ltb, leb, List, [], ◌∷◌, length, get_or, sym, refl, ap, ◌∙◌, subst, inl, inr, mod-eq_of_lt, mul-suc, arith, eqb→eq, leb→le}
+use Rattle.std.proofs.Common.{◌≡◌, ℕ, zero, suc, ◌+◌, ◌-◌, ◌*◌, ◌/◌, ◌%◌, ◌<◌, ◌≤◌, min, Bool, true, false, cond, not, ◌&&◌, ◌||◌, T, eqb, ltb, leb, length, get_or, sym, refl, ap, ◌∙◌, inl, inr, mod-eq_of_lt, mul-suc, arith, eqb→eq, leb→le}
 use native.Mathlib.Nat.{mod-mod, div-eq_of_lt}
 use lib.Dec.{eqb_refl}
 use Rattle.std.proofs.lemmas.Nat.{div-mul-add, mod-mul-add}
-use Rattle.std.proofs.lemmas.Bool.{cases_Bool, cases_lt, lt-ltb, le-ltb, ltb-true, ltb-false, eq-eqb, and_parts, and_right, not-true, leb-true, le-leb, lt-leb, eqb-true}
-use Rattle.stage.specs.declared.Content.{Content}
-use Rattle.stage.specs.declared.Content.TheVariants.{Carried, Fixed, Mute}
-use Rattle.stage.specs.Meaning.{Homes, Stands, carries, home_of, first_place}
+use Rattle.std.proofs.lemmas.Bool.{cases_Bool, cases_lt, lt-ltb, le-ltb, ltb-true, and_parts, and_right, not-true, leb-true, le-leb, lt-leb, eqb-true}
+use Rattle.stage.specs.declared.Content.TheVariants.{Carried, Fixed}
+use Rattle.stage.specs.Meaning.{Homes, Stands, carries, home_of}
 use Rattle.stage.specs.Marked.{Apart, Told, no_marker}
 use Rattle.layout.specs.Places.{taken, is_one_of, how_many, terms_to}
 use Rattle.layout.specs.Inserter.{mutes, is_mute, is_resync, is_carrier, resynchronisation, resync_bit, inserter_at, inserter_size, inserter_meaning, inserter_markers}
-use Rattle.layout.proofs.Places.{true_T, T_true, first_place_is, how_many_yes, how_many_no, how_many_most, how_many_grows, how_many_below, length-markers, marker_is}
+use Rattle.layout.proofs.Places.{T_true, first_place_is, how_many_yes, how_many_no, how_many_most, how_many_grows, how_many_below, length-markers, marker_is}
 use Rattle.layout.proofs.Fitting.{Placed, homes_fit, home_is, markers_told, markers_differ}
 use Rattle.layout.proofs.Tables.{everywhere, at}
 

@@ -1,6 +1,6 @@
 -- What the interleaver owes: element i stands at i + 16 (i mod 8) and nowhere else, and its preamble lies as its tables say.
 -- Assumes nothing.
-use Rattle.std.proofs.Common.{◌≡◌, ℕ, ◌+◌, ◌-◌, ◌*◌, ◌/◌, ◌%◌, ◌<◌, ◌≤◌, Bool, true, false, cond, not, ◌||◌, T, eqb, ltb, List, [], ◌∷◌, length, get_or, sym, refl, ap, ◌∙◌, subst, inl, inr, arith, eqb→eq, leb→le}
+use Rattle.std.proofs.Common.{◌≡◌, ℕ, ◌+◌, ◌-◌, ◌*◌, ◌/◌, ◌%◌, ◌<◌, ◌≤◌, Bool, true, false, cond, not, ◌||◌, T, eqb, ltb, List, [], ◌∷◌, length, get_or, refl, ap, ◌∙◌, subst, inl, inr, arith, eqb→eq, leb→le}
 use Rattle.std.proofs.lemmas.Nat.{div-mul-add, mod-mul-add}
 use Rattle.std.proofs.lemmas.Bool.{cases_Bool, lt-ltb, le-ltb, ltb-true, ltb-false, eq-eqb}
 use Rattle.stage.specs.declared.Content.{Content}
@@ -9,9 +9,9 @@ use Rattle.stage.specs.Meaning.{Homes, carries, home_of}
 use Rattle.stage.specs.Marked.{Apart, Told, no_marker}
 use Rattle.layout.specs.Places.{taken, how_many}
 use Rattle.layout.specs.Interleaver.{column, scrambled, in_preamble, preamble_bit, preamble_at, interleaved, interleaver_size, interleaver_at, interleaver_meaning, interleaver_markers}
-use Rattle.layout.proofs.Places.{true_T, T_true, passed, passed_back, how_many_past, how_many_below, length-markers, marker_is}
+use Rattle.layout.proofs.Places.{true_T, passed, passed_back, how_many_past, how_many_below, length-markers, marker_is}
 use Rattle.layout.proofs.Fitting.{Placed, homes_fit, home_is, markers_told, markers_differ}
-use Rattle.layout.proofs.Tables.{everywhere, at}
+use Rattle.layout.proofs.Tables.{at}
 
 abbrev pub place_of : ℕ → ℕ
 place_of i = i + 16 * (i % 8)

@@ -1,13 +1,12 @@
 -- What the lead owes: element i stands at i + 8 and nowhere else.
 -- Assumes nothing.
-use Rattle.std.proofs.Common.{◌≡◌, ℕ, ◌+◌, ◌-◌, ◌<◌, ◌≤◌, Bool, true, false, cond, T, eqb, length, get_or, ap, ◌∙◌, subst, inl, inr, arith, eqb→eq, leb→le}
-use Rattle.std.proofs.lemmas.Bool.{cases_lt, lt-ltb, le-ltb, ltb-true, eq-eqb}
+use Rattle.std.proofs.Common.{◌≡◌, ℕ, ◌+◌, ◌-◌, ◌<◌, ◌≤◌, true, cond, T, eqb, length, get_or, ap, ◌∙◌, subst, inl, inr, arith, eqb→eq, leb→le}
+use Rattle.std.proofs.lemmas.Bool.{cases_lt, lt-ltb, le-ltb, eq-eqb}
 use Rattle.stage.specs.declared.Content.{Content}
 use Rattle.stage.specs.declared.Content.TheVariants.{Carried, Fixed}
-use Rattle.stage.specs.declared.Marker.{Marker}
 use Rattle.stage.specs.Meaning.{Homes, carries, home_of}
 use Rattle.stage.specs.Marked.{Apart, Told, no_marker}
-use Rattle.layout.specs.Places.{taken, how_many}
+use Rattle.layout.specs.Places.{taken}
 use Rattle.layout.specs.Lead.{in_lead, lead_bit, lead_size, lead_at, lead_meaning, lead_markers}
 use Rattle.layout.proofs.Places.{true_T, how_many_past, how_many_all, length-markers, marker_is}
 use Rattle.layout.proofs.Fitting.{Placed, homes_fit, home_is, markers_told, markers_differ}

@@ -1,5 +1,7 @@
 // Runs two lines through a call each: one whose far end answers, and one that stays silent for long.
 // Prints what happened, the items of each burst, what was wanted, how each due was settled, and the state.
+#![tactic(auto)]
+
 ghost use Rattle.std.specs.Prelude.{◌≡◌, if◌then◌else◌, Some, None, codes};
 ghost use Rattle.character.specs.Reader.{holds_enquiry};
 ghost use Rattle.negotiation.specs.declared.State.TheVariants.{Known as KnownLine};

@@ -1,9 +1,9 @@
 -- Lists of calls from a line's opening: where they lead, and the law over all of them.
 -- Assumes nothing.
-use Rattle.std.specs.Prelude.{◌≡◌, ℕ, ◌+◌, ◌≤◌, Bool, true, false, cond, not, ◌&&◌, ◌||◌, List, [], ◌∷◌}
+use Rattle.std.specs.Prelude.{◌≡◌, ℕ, ◌+◌, ◌≤◌, Bool, true, false, cond, ◌&&◌, List, [], ◌∷◌}
 use Rattle.character.specs.Reader.{holds_enquiry}
 use Rattle.negotiation.specs.declared.State.{State}
-use Rattle.negotiation.specs.declared.State.TheVariants.{New, Asking, Known, Clear}
+use Rattle.negotiation.specs.declared.State.TheVariants.{New, Known, Clear}
 use Rattle.negotiation.specs.declared.Call.{Call}
 use Rattle.negotiation.specs.declared.Call.TheVariants.{Tick, Hear}
 use Rattle.negotiation.specs.declared.Played.{Played}

@@ -1,6 +1,6 @@
 -- What the private steps promise each other.
 -- Assumes nothing.
-use Rattle.std.specs.Prelude.{ℕ, ◌+◌, ◌^◌, ◌<◌, Bool, cond, not, ◌&&◌, List, [], ◌∷◌}
+use Rattle.std.specs.Prelude.{◌+◌, ◌^◌, ◌<◌, Bool, cond, not, ◌&&◌}
 use Rattle.character.specs.Reader.{holds_enquiry}
 use Rattle.negotiation.specs.declared.Acknowledgement.{Acknowledgement}
 use Rattle.negotiation.specs.declared.Acknowledgement.TheVariants.{Idle, Text}

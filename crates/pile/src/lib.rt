@@ -1,4 +1,6 @@
 // A pile of two stages is again a stage: what leaves the lower enters the upper.
+#![tactic(auto)]
+
 ghost use Rattle.std.specs.Prelude.{◌≡◌};
 ghost use Rattle.stage.specs.Meaning.{Homes, meaning_of, length_answer, content_answer, home_answer};
 ghost use Rattle.stage.specs.Piled.{piled, piled_markers, moved_answer, Enters};

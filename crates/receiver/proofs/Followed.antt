@@ -1,16 +1,16 @@
 -- What a call has done to a receiver is what the rules say. Assumes nothing.
-use Rattle.std.proofs.Common.{◌≡◌, ℕ, ◌+◌, ◌<◌, ◌≤◌, min, Bool, true, false, cond, ◌||◌, eqb, ltb, List, ◌++◌, length, get_or, take, drop, replicate, ℤ, pos, negsuc, Ok, Err, Result, sym, refl, ap, ◌∙◌, subst, arith, w8, SFits, of_z, rules}
-use Rattle.std.proofs.lemmas.List.{places, same_lists, take-append-drop, length-take-le, length-replicate, take_at, drop_at, length-append, append_assoc, at_drop_more, at_drop_all}
+use Rattle.std.proofs.Common.{◌≡◌, ℕ, ◌+◌, ◌<◌, ◌≤◌, true, false, ◌||◌, ltb, List, ◌++◌, length, get_or, take, drop, replicate, ℤ, pos, negsuc, Ok, Err, Result, sym, refl, ap, ◌∙◌, arith, w8, SFits, of_z, rules}
+use Rattle.std.proofs.lemmas.List.{places, same_lists, take-append-drop, length-take-le, length-replicate, take_at, length-append, append_assoc, at_drop_more, at_drop_all}
 use Rattle.std.proofs.lemmas.Bool.{eq-eqb, ne_eqb, lt-ltb, le-ltb}
 use Rattle.std.proofs.lemmas.Bool.Decides.{nat_tests}
 use Rattle.refusal.specs.declared.Refusal.{Refusal}
-use Rattle.refusal.specs.declared.Refusal.TheVariants.{EmptyText, TextTooLong, CapacityExceeded, NoSuchPlace}
+use Rattle.refusal.specs.declared.Refusal.TheVariants.{CapacityExceeded, NoSuchPlace}
 use Rattle.refusal.specs.Answer.{text_checked}
 use Rattle.stage.specs.declared.Marker.{Marker}
 use Rattle.stage.specs.Meaning.{Meaning}
 use Rattle.code.specs.Coder.{coded_count}
 use Rattle.fit.specs.Fit.{best_start_answer}
-use Rattle.receiver.specs.State.{State, Request, hears, loses, finds, hear_answer, lose_answer, find_answer, out_of_range, some_out_of_range, next, laid, erased, unless_refused}
+use Rattle.receiver.specs.State.{State, Request, hears, loses, finds, hear_answer, lose_answer, find_answer, out_of_range, some_out_of_range, next, laid, erased}
 use Rattle.receiver.specs.Held.{memory_of, room, held, Follows, written}
 use Rattle.receiver.specs.declared.memory.Receiver.{Receiver}
 

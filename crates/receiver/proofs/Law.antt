@@ -1,9 +1,9 @@
 -- The law over histories, for the calls that there are. Assumes nothing.
-use Rattle.std.proofs.Common.{◌≡◌, ℕ, zero, suc, ◌+◌, ◌-◌, ◌*◌, ◌<◌, ◌≤◌, Bool, true, false, cond, not, eqb, ltb, List, [], ◌∷◌, ◌++◌, map, length, get_or, take, drop, ℤ, pos, ◌≤ℤ◌, ◌<ℤ◌, Ok, Err, Result, sym, refl, ap, ◌∙◌, subst, arith}
+use Rattle.std.proofs.Common.{◌≡◌, ℕ, zero, suc, ◌*◌, ◌≤◌, Bool, true, false, not, eqb, ltb, List, [], ◌∷◌, ◌++◌, map, length, get_or, take, ℤ, pos, ◌≤ℤ◌, Ok, Err, Result, refl, ap, ◌∙◌, subst, arith}
 use lib.Signed.{lt_z}
 use Rattle.std.proofs.lemmas.Int.{ints}
 use Rattle.std.proofs.lemmas.Bool.{ltb-false}
-use Rattle.std.proofs.lemmas.List.{get_or-map, get_or_append_left, take-map}
+use Rattle.std.proofs.lemmas.List.{get_or_append_left}
 use Rattle.refusal.specs.declared.Refusal.{Refusal}
 use Rattle.refusal.specs.declared.Refusal.TheVariants.{EmptyText, TextTooLong, BurstNotHeard, NoMarker, PoorFit, CountNotTaken}
 use Rattle.refusal.specs.Answer.{refused_when}
@@ -12,7 +12,7 @@ use Rattle.stage.specs.declared.Marker.{Marker}
 use Rattle.stage.specs.Meaning.{Meaning}
 use Rattle.fit.specs.Fit.{fit, Best, earliest_best, best_of, starts, fits_well, best_start_answer}
 use Rattle.fit.proofs.Bests.{best_stands}
-use Rattle.receiver.specs.State.{State, opened, Request, begins, finds, find_answer}
+use Rattle.receiver.specs.State.{State, opened, begins, find_answer}
 use Rattle.receiver.specs.History.{Reply, done, found, reply, replies, answered, state_after, Shows, FindShows, FoundWell, Lawful, as_request}
 use Rattle.receiver.specs.declared.history.Call.{Call}
 use Rattle.receiver.specs.declared.history.Call.TheVariants.{Begin, Hear, Lose, Find}

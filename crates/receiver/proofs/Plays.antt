@@ -1,6 +1,6 @@
 -- A list of calls one longer. Assumes nothing.
-use Rattle.std.proofs.Common.{◌≡◌, ℕ, zero, suc, ◌+◌, ◌<◌, ◌≤◌, List, [], ◌∷◌, ◌++◌, map, length, get_or, take, drop, set, ℤ, sym, refl, ap, ◌∙◌, subst, arith}
-use Rattle.std.proofs.lemmas.List.{drop_more, take_more, get_or-map, set_at, append_assoc, length-append, map_more, map-set, length-map, length-take-le, take_all}
+use Rattle.std.proofs.Common.{◌≡◌, ℕ, zero, suc, ◌+◌, ◌<◌, ◌≤◌, List, [], ◌∷◌, ◌++◌, map, length, get_or, take, drop, set, ℤ, sym, refl, ap, ◌∙◌, arith}
+use Rattle.std.proofs.lemmas.List.{drop_more, take_more, get_or-map, set_at, append_assoc, map-set, length-map, length-take-le, take_all}
 use Rattle.std.proofs.lemmas.List.Sums.{fold_push}
 use Rattle.receiver.specs.State.{State, Request, begins, capacity, next, laid}
 use Rattle.receiver.specs.Held.{memory_of, room, held, Follows}

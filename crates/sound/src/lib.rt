@@ -1,4 +1,6 @@
 // Samples to a sound file that any player opens: RIFF/WAVE, 8,000 samples a second, 16 bits, one channel.
+#![tactic(auto)]
+
 ghost use Rattle.std.specs.Prelude.{◌≡◌, ◌+◌, ◌*◌, ◌^◌, ◌<◌, length};
 ghost use Rattle.refusal.specs.Answer.{after};
 ghost use Rattle.std.specs.Int.{w16};

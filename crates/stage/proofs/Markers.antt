@@ -1,5 +1,5 @@
 -- Markers: no stage has more than it has places, and a pile's markers are apart and tell its content.
-use Rattle.std.proofs.Common.{◌≡◌, ℕ, zero, suc, ◌+◌, ◌-◌, ◌<◌, ◌≤◌, Bool, true, false, cond, not, T, ltb, leb, ◌⊎◌, List, ◌++◌, map, length, get_or, Ok, Err, Result, sym, refl, ap, ◌∙◌, subst, inl, inr, ⊎_elim, arith, eqb→eq, leb-false}
+use Rattle.std.proofs.Common.{◌≡◌, ℕ, zero, suc, ◌+◌, ◌-◌, ◌<◌, ◌≤◌, Bool, cond, not, T, ltb, leb, ◌⊎◌, List, map, length, get_or, Ok, Err, sym, refl, ap, ◌∙◌, subst, inl, inr, ⊎_elim, arith, eqb→eq, leb-false}
 use Rattle.std.proofs.lemmas.List.{length-append, length-map, get_or_append_left, get_or-append_right, get_or-map}
 use Rattle.std.proofs.lemmas.Bool.{cases_lt, cond_both, ltb-true, ltb-false}
 use borrow.Author.Tests.{lt-leb}
@@ -9,7 +9,7 @@ use Rattle.stage.specs.declared.Content.TheVariants.{Carried, Inverted, Fixed, M
 use Rattle.stage.specs.declared.Marker.{Marker}
 use Rattle.stage.specs.Elements.{inverse}
 use Rattle.stage.specs.Marked.{no_marker, Apart, Told, count_answer, marker_answer}
-use Rattle.stage.specs.Meaning.{Meaning, carries, Stands, Homes, home_of, length_answer}
+use Rattle.stage.specs.Meaning.{Meaning, carries, Stands, Homes, length_answer}
 use Rattle.stage.specs.Piled.{over, piled, bit_over, moved, moved_answer, piled_markers}
 use Rattle.stage.proofs.Homes.{parts_take, home_holds}
 use Rattle.stage.proofs.Answers.{passed, taken, same_ok, is_true, length_told, pile_takes}

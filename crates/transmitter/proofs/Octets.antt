@@ -1,5 +1,5 @@
 -- The octets of a burst, place by place.
-use Rattle.std.proofs.Common.{◌≡◌, ℕ, ◌+◌, ◌<◌, ◌≤◌, Bool, not, T, ltb, leb, List, ◌++◌, map, length, get_or, drop, Ok, Err, Result, sym, refl, ap, ◌∙◌, subst, arith}
+use Rattle.std.proofs.Common.{◌≡◌, ℕ, ◌<◌, ◌≤◌, not, T, ltb, leb, List, ◌++◌, map, length, get_or, drop, Ok, Err, sym, refl, ap, ◌∙◌, subst, arith}
 use lib.Dec.{eqb_refl}
 use Rattle.std.specs.List.{range_with_len}
 use Rattle.std.proofs.lemmas.List.FromFn.{length-map-range_with_len, get_or-map-range_with_len, fill_by_all}
@@ -15,7 +15,7 @@ use Rattle.stage.specs.declared.Content.{Content}
 use Rattle.stage.specs.declared.Content.TheVariants.{Carried, Inverted, Fixed, Mute as Silence}
 use Rattle.stage.specs.declared.Element.{Element}
 use Rattle.stage.specs.declared.Element.TheVariants.{Mute}
-use Rattle.stage.specs.Elements.{octet_of, element_of, opposite, evaluated, leaving}
+use Rattle.stage.specs.Elements.{octet_of, element_of, opposite, evaluated}
 use Rattle.stage.specs.Meaning.{Meaning, Homes, carries, length_answer, content_answer}
 use Rattle.stage.proofs.Answers.{length_told, content_told, same_ok, is_true}
 use Rattle.stage.proofs.Leaving.{length-leaving, get_or-leaving}

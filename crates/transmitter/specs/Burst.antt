@@ -9,7 +9,7 @@ use Rattle.stage.specs.declared.Content.{Content}
 use Rattle.stage.specs.declared.Content.TheVariants.{Carried, Inverted, Fixed, Mute as Silence}
 use Rattle.stage.specs.declared.Element.{Element}
 use Rattle.stage.specs.declared.Element.TheVariants.{Mute}
-use Rattle.stage.specs.Elements.{octet_of, element_of, opposite, leaving}
+use Rattle.stage.specs.Elements.{element_of, opposite, leaving}
 use Rattle.stage.specs.Meaning.{Meaning}
 
 -- the elements that enter: the text's coded bits, in order

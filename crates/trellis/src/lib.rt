@@ -1,4 +1,6 @@
 // The search for the text that lies nearest to what was heard, over any source of soft bits.
+#![tactic(auto)]
+
 ghost use Rattle.std.specs.Prelude.{◌≡◌, ℕ, ◌+◌, ◌*◌, ◌/◌, ◌%◌, ◌^◌, ◌<◌, ◌≤◌, Bool, true, false, ltb, List, [], ◌∷◌, length, take, is_ok, if◌then◌else◌, nat_lt, slice_index};
 ghost use Rattle.refusal.specs.Answer.{after};
 ghost use Rattle.distance.specs.Nearest.{Nearest, distance};

@@ -1,5 +1,7 @@
 // Times the search for the nearest text. With no argument it searches once and prints what it found; with a number of
 // rounds it searches so often and prints nanoseconds per bit of the text.
+#![tactic(auto)]
+
 mod levels;
 #[cfg(test)]
 mod trials;

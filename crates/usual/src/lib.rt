@@ -1,4 +1,6 @@
 // The exchange's usual line setting: the standard pile with its usual preamble.
+#![tactic(auto)]
+
 ghost use Rattle.std.specs.Prelude.{◌≡◌};
 ghost use Rattle.usual.specs.Worked.{usual_preamble, WorkedExamples};
 

@@ -1,4 +1,6 @@
 // The values file: what a burst at full strength is as values, a line for the text's length and a line a frame.
+#![tactic(auto)]
+
 ghost use Rattle.std.specs.Prelude.{◌≡◌, ◌<◌, length};
 ghost use Rattle.refusal.specs.Answer.{after};
 ghost use Rattle.values_file.specs.Values.{digit as digit_of, two_digits, value_octet, line_of, values_file, write_answer};

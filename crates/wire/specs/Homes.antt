@@ -1,6 +1,6 @@
 -- The wire's homes fit.
 use Rattle.std.proofs.Common.{subst, sym, ◌∙◌, arith, eqb→eq, leb→le}
-use Rattle.std.specs.Prelude.{◌<◌, ◌≤◌}
+use Rattle.std.specs.Prelude.{◌<◌}
 use Rattle.std.proofs.Math.Dec.{eqb_refl}
 use Rattle.stage.specs.Meaning.{Homes}
 use Rattle.wire.specs.Wire.{wire}

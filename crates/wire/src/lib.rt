@@ -1,4 +1,6 @@
 // The wire: a stage that passes all elements on.
+#![tactic(auto)]
+
 ghost use Rattle.std.specs.Prelude.{◌≡◌, not, Ok};
 ghost use Rattle.refusal.specs.Answer.{refused_when};
 ghost use Rattle.refusal.specs.declared.Refusal.TheVariants.{CountNotTaken};

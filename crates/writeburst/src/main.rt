@@ -1,5 +1,7 @@
 // Shows what a text becomes on its way out: reads its octets from standard input, and prints each layer or hands on
 // the burst as values or as sound.
+#![tactic(auto)]
+
 mod outgoing;
 mod report;
 

@@ -1,5 +1,5 @@
-use Rattle.std.proofs.Common.{◌≡◌, ℕ, ◌≤◌, ℤ, ◌≤ℤ◌, ◌<ℤ◌, Ok, sym, ap, ◌∙◌, subst, arith, w32, SFits, rules}
-use Rattle.std.proofs.lemmas.Int.{ints, to_z-of_z}
+use Rattle.std.proofs.Common.{◌≡◌, ℕ, ℤ, Ok, ap, ◌∙◌, subst, arith, w32, SFits, rules}
+use Rattle.std.proofs.lemmas.Int.{to_z-of_z}
 use Rattle.fit.specs.Fit.{fit, earliest_best, Best}
 use Rattle.fit.proofs.Bests.{best_none, turn_takes, turn_keeps, best_is}
 use Rattle.fit.proofs.earliest_best.Goals as goal

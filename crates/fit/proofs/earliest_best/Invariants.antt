@@ -1,4 +1,4 @@
-use Rattle.std.proofs.Common.{◌≡◌, ◌≤◌}
+use Rattle.std.proofs.Common.{◌≡◌}
 use Rattle.fit.specs.Fit.{fit, Best}
 use Rattle.fit.proofs.earliest_best.Given as goal
 

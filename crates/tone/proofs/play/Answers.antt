@@ -1,11 +1,10 @@
-use Rattle.std.proofs.Common.{◌≡◌, ℕ, ◌+◌, ◌-◌, ◌*◌, ◌/◌, ◌%◌, ◌<◌, false, eqb, ltb, ◌++◌, map, length, drop, Ok, sym, ap, ◌∙◌, mul_comm, arith}
+use Rattle.std.proofs.Common.{◌≡◌, ℕ, ◌+◌, ◌-◌, ◌*◌, ◌/◌, ◌%◌, ◌<◌, eqb, ltb, ◌++◌, map, length, drop, Ok, sym, ap, ◌∙◌, mul_comm, arith}
 use borrow.Rule.Slice.PartMut.{put_mid}
 use Rattle.std.specs.List.{range_with_len}
 use Rattle.std.proofs.lemmas.Nat.{div-mul-add, mod-mul-add}
 use Rattle.std.proofs.lemmas.List.FromFn.{length-map-range_with_len}
 use Rattle.std.proofs.lemmas.Bool.{eqb-false, le-ltb, or_parts}
 use Rattle.refusal.specs.declared.Refusal.TheVariants.{BadElements, MemoryTooShort}
-use Rattle.refusal.specs.Answer.{refused_when}
 use Rattle.refusal.proofs.Checks.{passed, past}
 use Rattle.refusal.proofs.Front.{filled, filled_part}
 use Rattle.tone.specs.Tones.{bad, frame, sample, samples, strange, tone_sample}

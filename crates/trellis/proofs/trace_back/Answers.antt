@@ -1,5 +1,5 @@
 -- One octet further back.
-use Rattle.std.proofs.Common.{◌≡◌, suc, ◌+◌, ◌-◌, ◌*◌, length, get_or, set, sym, ◌∙◌, subst, ⊎_elim, arith, get_or-set_other, get_or-set_same}
+use Rattle.std.proofs.Common.{◌≡◌, suc, ◌-◌, length, get_or, set, sym, ◌∙◌, subst, ⊎_elim, arith, get_or-set_other, get_or-set_same}
 use Rattle.distance.proofs.Traces.{low_below, octet_agree, octet_back}
 use Rattle.distance.specs.Trellis.{octet, traced}
 use Rattle.std.proofs.lemmas.Bool.{cases_eq}

@@ -1,4 +1,4 @@
-use Rattle.std.proofs.Common.{◌≡◌, ℕ, ◌+◌, ◌*◌, ◌<◌, ◌≤◌, length, get_or}
+use Rattle.std.proofs.Common.{◌≡◌, ℕ, ◌*◌, ◌<◌, ◌≤◌, length, get_or}
 use Rattle.distance.specs.Trellis.{four, octet, traced}
 use Rattle.distance.proofs.Paths.{Agree}
 use Rattle.trellis.proofs.trace_back.Given as goal

@@ -1,4 +1,4 @@
-use Rattle.std.proofs.Common.{◌≡◌, false, length, take, fold, sym, ap, ◌∙◌, subst, arith, take_all}
+use Rattle.std.proofs.Common.{◌≡◌, false, length, fold, sym, ap, ◌∙◌, subst, arith, take_all}
 use Rattle.negotiation.specs.declared.Call.TheVariants.{Tick}
 use Rattle.negotiation.specs.Calls.{Outcome}
 use Rattle.negotiation.specs.Steps.{stepped}

@@ -1,4 +1,4 @@
-use Rattle.std.proofs.Common.{◌%◌, arith, rules}
+use Rattle.std.proofs.Common.{◌%◌, arith}
 use Rattle.layout.specs.Inserter.{is_mute}
 use Rattle.layout.proofs.Places.{how_many_most}
 use Rattle.layout.proofs.InserterLaws.{carriers_rule}

@@ -1,4 +1,4 @@
-use Rattle.std.proofs.Common.{◌≡◌, ◌+◌, ◌≤◌, length, get_or, pos, refl, arith, w8, SFits, rules}
+use Rattle.std.proofs.Common.{◌+◌, ◌≤◌, length, get_or, pos, refl, arith, w8, SFits, rules}
 use Rattle.std.proofs.lemmas.List.Edits.{paste_none}
 use Rattle.std.proofs.lemmas.Int.{to_z-of_z}
 use Rattle.receiver.proofs.Writes.{copy_more, copy_all}

@@ -1,5 +1,4 @@
-use Rattle.std.proofs.Common.{◌≡◌, ◌+◌, ◌≤◌, length, replicate, pos, sym, refl, ap, ◌∙◌, arith}
-use Rattle.std.proofs.lemmas.List.{length-replicate}
+use Rattle.std.proofs.Common.{◌+◌, ◌≤◌, length, replicate, pos, refl, arith}
 use Rattle.std.proofs.lemmas.List.Edits.{paste_none}
 use Rattle.receiver.proofs.Writes.{erase_more, erase_all}
 use Rattle.receiver.proofs.memory.Receiver.erase.Goals as goal

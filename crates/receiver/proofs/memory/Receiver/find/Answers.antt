@@ -1,8 +1,7 @@
-use Rattle.std.proofs.Common.{◌≡◌, Ok, Err, sym, refl, ap, ◌∙◌}
+use Rattle.std.proofs.Common.{◌≡◌, Ok, sym, refl, ◌∙◌}
 use Rattle.std.proofs.lemmas.Result.{err_from_is_err_and}
 use Rattle.code.specs.Coder.{coded_count}
 use Rattle.stage.specs.Meaning.{meaning_of}
-use Rattle.fit.specs.Fit.{best_start_answer}
 use Rattle.receiver.specs.State.{find_answer}
 use Rattle.receiver.specs.Held.{held}
 use Rattle.receiver.proofs.Followed.{find_refused, found_follows, length_refused, find_answered}

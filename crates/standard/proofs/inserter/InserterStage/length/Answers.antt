@@ -1,4 +1,4 @@
-use Rattle.std.proofs.Common.{◌-◌, rules}
+use Rattle.std.proofs.Common.{rules}
 use Rattle.layout.proofs.InserterLaws.{size_from}
 use Rattle.standard.proofs.inserter.InserterStage.length.Goals as goal
 

@@ -1,5 +1,5 @@
 use Rattle.std.proofs.Common.{rules}
-use Rattle.layout.proofs.LeadLaws.{lead_count, lead_told, lead_apart, lead_marker}
+use Rattle.layout.proofs.LeadLaws.{lead_count, lead_told, lead_marker}
 use Rattle.standard.proofs.lead.LeadMarkedStage.marker.Goals as goal
 
 pub returns-then-index-ge8 : goal.returns-then-index-ge8

@@ -9,5 +9,5 @@ returns c =
     let b = c.args.self.now.front in
     let n = c.args.n in
     let i = c.args.element in
-    let t = (length_told (turned b) n c.in-ok-length.field-0 c.in-ok-length.ensures).0 in
+    let t = (length_told (turned b) n c.in_ok-length.field-0 c.in_ok-length.ensures).0 in
     home_answered (turned b) (turned_homes b) n i (i + 1) t c.if-element-n.false (turned_stands b n i c.if-element-n.false)
