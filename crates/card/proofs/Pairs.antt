@@ -152,7 +152,7 @@ pub loud : (x : Float) → Level x → eq x nought ≡ false → T (positive x)
 unfolding of_bits
 loud x p h = level_positive x p h
 
--- ---- four levels that are in_range
+-- ---- four levels that are in range
 
 module _ (l : Levels) (t : T (in_range l)) where
   abbrev t400 : Bool

@@ -15,7 +15,7 @@ digit n = cond (nat_lt n 10) (48 + n) (55 + n)
 abbrev pub two_digits : ℕ → List ℕ
 two_digits octet = digit (octet / 16) ∷ digit (octet % 16) ∷ []
 
--- the full_strength value of an element as an octet in two's complement: 127 for a 1, -127 for a 0, 0 for a mute
+-- the full-strength value of an element as an octet in two's complement: 127 for a 1, -127 for a 0, 0 for a mute
 abbrev pub value_octet : ℕ → ℕ
 value_octet e = cond (e == 0) 129 (cond (e == 1) 127 0)
 
