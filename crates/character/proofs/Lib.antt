@@ -1,3 +1,4 @@
+mod Controls
 mod Encodings
 mod Fronts
 mod Runs

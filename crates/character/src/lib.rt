@@ -6,6 +6,10 @@ ghost use Rattle.character.specs.Reader.{Next, OnlyReading, standing, front_item
 ghost use Rattle.character.specs.Forms.{Room, Within, one_more};
 ghost use Rattle.character.specs.declared.Placed.{Placed as PlacedItem};
 ghost use Rattle.std.specs.Iterator.{at_most};
+ghost use Rattle.refusal.specs.Answer.{after};
+ghost use Rattle.character.specs.Controls.{is_control, without_controls, removal_answer};
+
+use refusal::Refusal;
 
 mod decoder;
 
@@ -160,6 +164,44 @@ pub fn holds_enquiry(text: &[u8]) -> bool
     ensures { result ≡ holds_enquiry text.now }
 {
     Tally::of(text).enquiries > 0
+}
+
+// Whether an octet is a control character.
+fn is_control(octet: u8) -> bool
+    ensures { result ≡ is_control octet }
+{
+    octet == ENQUIRY || octet == IDLE
+}
+
+// How many octets a text has besides its control characters.
+fn plain_length(text: &[u8]) -> usize
+    ensures { result ≡ length (without_controls text.now) }
+{
+    let mut length = 0;
+    for octet in text {
+        if !is_control(*octet) {
+            length += 1;
+        }
+    }
+    length
+}
+
+// Copies a text without its enquiries and idles into the first places of memory, and answers how many octets stay.
+pub fn remove_controls(text: &[u8], memory: &mut [u8]) -> Result<usize, Refusal>
+    ensures answer { result ≡ removal_answer text.now (length memory.old) }
+    ensures memory { memory.new ≡ after result (without_controls text.now) memory.old }
+{
+    if plain_length(text) > memory.len() {
+        return Err(Refusal::MemoryTooShort);
+    }
+    let mut length = 0;
+    for &octet in text {
+        if !is_control(octet) {
+            memory[length] = octet;
+            length += 1;
+        }
+    }
+    Ok(length)
 }
 
 #[cfg(test)]

@@ -1,6 +1,7 @@
 // What stands at the front, at every boundary that UTF-8 has, and one mixed text.
 // The table's right column was worked out by another decoder.
-use crate::{Characters, Item, Placed, Tally};
+use crate::{Characters, Item, Placed, Tally, remove_controls};
+use refusal::Refusal;
 
 const FRONTS: [(&[u8], Item); 62] = [
     (&[0x00], Item::Character('\u{0}')),
@@ -124,4 +125,19 @@ fn mixed(rt: HostRuntime) {
             broken: 2,
         }
     );
+}
+
+#[test]
+fn controls_removed(rt: HostRuntime) {
+    let text = b"\x05A\x05\xC3\xA9\x16\xE2\x82\x16\x16";
+    let mut memory = [1; 7];
+    assert_eq!(rt; remove_controls(text, &mut memory), Ok(5));
+    assert_eq!(rt; memory, [b'A', 0xC3, 0xA9, 0xE2, 0x82, 1, 1]);
+    let mut short = [1; 4];
+    assert_eq!(rt;
+        remove_controls(text, &mut short),
+        Err(Refusal::MemoryTooShort)
+    );
+    assert_eq!(rt; short, [1; 4]);
+    assert_eq!(rt; remove_controls(b"\x05\x16", &mut short[0..0]), Ok(0));
 }
