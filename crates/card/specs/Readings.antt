@@ -18,7 +18,7 @@ abbrev pub in_range : Levels → Bool
 in_range l = is_level l.hz400 && is_level l.hz600 && is_level l.hz800 && is_level l.hz1000
 
 -- the elements 00, 01, 10 and 11 sound at 400, 600, 800 and 1000 Hz;
--- the louder of the two tones with a 1 in the first place (`most` is the greater of two floats)
+-- the louder of the two tones with a 1 in the first place (`float_max` is the greater of two floats)
 abbrev pub first_one : Levels → Float
 first_one l = float_max l.hz800 l.hz1000
 
