@@ -1,34 +1,19 @@
 // Times the dear calls: the way through the trellis, finding, reading, writing and playing. With no argument it prints
 // only what they return; with a number of rounds it prints the least time of each too.
-use code::coded_count;
-use code::encode;
+use anyhow::anyhow;
+use code::{coded_count, encode};
 use exchange::usual_pile;
-use layout::InserterMarked;
-use layout::InserterStage;
-use layout::InterleaverMarked;
-use layout::InterleaverStage;
-use layout::LeadMarked;
-use layout::LeadStage;
 use layout::StandardPile;
-use pile::PileMarkedStage;
-use pile::PileStage;
-use receiver::GREATEST_CAPACITY;
-use receiver::Receiver;
+use receiver::{GREATEST_CAPACITY, Receiver};
 use refusal::Refusal;
-use stage::MarkedStage;
-use stage::Stage;
+use stage::{MarkedStage, Stage};
 use std::alloc::Global;
 use std::env;
-use std::error::AnyError;
 use std::time::Instant;
-use tone::play;
-use tone::sample_count;
+use tone::{play, sample_count};
 use transmitter::write;
 use trellis::nearest_text;
-use trials::LOST;
-use trials::Levels;
-use trials::LevelsSoftBits;
-use trials::full;
+use trials::{LOST, Levels, full};
 
 // The octets of the text that is coded, written and read.
 const OCTETS: usize = 240;
@@ -39,7 +24,7 @@ trait Task {
 }
 
 // The text: octet i is 73i + 41, modulo 256.
-fn sent(heap: Global) -> Result<Vec<u8>, AnyError> {
+fn sent(heap: Global) -> anyhow::Result<Vec<u8>> {
     let mut sent = vec![in heap; 0u8; OCTETS]?;
     for (i, octet) in sent.iter_mut().enumerate() {
         *octet = (i.wrapping_mul(73).wrapping_add(41) % 256) as u8;
@@ -48,8 +33,8 @@ fn sent(heap: Global) -> Result<Vec<u8>, AnyError> {
 }
 
 // Turns a refusal into the program's error.
-fn accepted<T: Drop>(result: Result<T, Refusal>) -> Result<T, AnyError> {
-    match result {
+fn accepted<T: Drop>(res: Result<T, Refusal>) -> anyhow::Result<T> {
+    match res {
         Ok(value) => Ok(value),
         Err(refusal) => Err(refusal.sentence().into()),
     }
@@ -74,7 +59,7 @@ fn level(bit: bool, i: usize) -> u8 {
     }
 }
 
-impl Task for Trellis as TrellisTask {
+impl Task for Trellis {
     fn once(&mut self) -> Result<u64, Refusal> {
         let source = Levels {
             levels: &self.levels,
@@ -92,7 +77,7 @@ struct Finding<'r, 'a> {
     m: usize,
 }
 
-impl Task for Finding<'_, '_> as FindingTask {
+impl Task for Finding<'_, '_> {
     fn once(&mut self) -> Result<u64, Refusal> {
         let (start, _) = self.receiver.find(&self.pile, self.m)?;
         Ok(start as u64)
@@ -108,9 +93,10 @@ struct Reading<'r, 'a> {
     work: Vec<u16>,
 }
 
-impl Task for Reading<'_, '_> as ReadingTask {
+impl Task for Reading<'_, '_> {
     fn once(&mut self) -> Result<u64, Refusal> {
-        let distance = self.receiver
+        let distance = self
+            .receiver
             .read(&self.pile, OCTETS, &mut self.text, &mut self.work)?;
         Ok(u64::from(distance))
     }
@@ -124,7 +110,7 @@ struct Writing {
     elements: Vec<u8>,
 }
 
-impl Task for Writing as WritingTask {
+impl Task for Writing {
     fn once(&mut self) -> Result<u64, Refusal> {
         let length = write(&self.pile, &self.sent, &mut self.elements)?;
         Ok(length as u64)
@@ -138,7 +124,7 @@ struct Playing {
     samples: Vec<i16>,
 }
 
-impl Task for Playing as PlayingTask {
+impl Task for Playing {
     fn once(&mut self) -> Result<u64, Refusal> {
         let count = play(&self.elements, &mut self.samples)?;
         Ok(count as u64)
@@ -146,25 +132,20 @@ impl Task for Playing as PlayingTask {
 }
 
 // Runs a task, prints its result, and with rounds the least time that it took.
-fn report<T: Task>(
-    rt: &LibcRuntime,
-    name: &str,
-    task: &mut T,
-    rounds: u32,
-) -> Result<(), AnyError> {
+fn report<T: Task>(rt: &HostRuntime, name: &str, task: &mut T, rounds: u32) -> anyhow::Result<()> {
     let result = accepted(task.once())?;
-    println!(rt, "{name}: {result}")?;
+    println!(rt; "{name}: {result}")?;
     let mut least = u128::MAX;
     for _ in 0..rounds {
         let begun = Instant::now(rt)?;
         let again = accepted(task.once())?;
         least = least.min(begun.elapsed(rt)?.as_nanos());
         if again != result {
-            return Err("another result".into());
+            return Err(anyhow!("another result"));
         }
     }
     if rounds > 0 {
-        println!(rt, "{name}: {least} ns")?;
+        println!(rt; "{name}: {least} ns")?;
     }
     Ok(())
 }
@@ -182,7 +163,7 @@ fn imprint(values: &mut [i8], pile: &StandardPile, m: usize, start: usize) -> Re
 }
 
 // Finding among as many values as a receiver holds.
-fn find(rt: &LibcRuntime, name: &str, m: usize, rounds: u32) -> Result<(), AnyError> {
+fn find(rt: &HostRuntime, name: &str, m: usize, rounds: u32) -> anyhow::Result<()> {
     let heap = rt.alloc();
     let pile = usual_pile();
     let length = accepted(pile.length(accepted(coded_count(m))?))?;
@@ -204,7 +185,7 @@ fn find(rt: &LibcRuntime, name: &str, m: usize, rounds: u32) -> Result<(), AnyEr
     report(rt, name, &mut finding, rounds)
 }
 
-fn main(rt: LibcRuntime) -> Result<(), AnyError> {
+fn main(rt: HostRuntime) -> anyhow::Result<()> {
     let rounds = match env::args(&rt)?.nth(1) {
         Some(word) => word.as_str().parse::<u32>()?,
         None => 0,

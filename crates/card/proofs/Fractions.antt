@@ -1,17 +1,10 @@
 -- Levels as fractions that are not negative: their order, the greater of two, and their difference before it is rounded.
-use mathlib.Core.Path.{_≡_, refl, ap, _∙_}
-use mathlib.Core.Bool.{Bool, true, false, not, _&&_, _||_, cond, true≢false}
-use Prim.Native.Nat.{ℕ, zero, suc, _+_, _-_, _*_, _≤_, _<_}
-use native.Mathlib.Nat.{le-antisymm, zero-mul, zero-lt-suc}
-use native.Mathlib.Omega.{arith}
-use lib.IntN.{ℤ, pos}
-use lib.Dec.{T, ltb, eqb, ltb→lt, lt→ltb, nltb→le, eqb→eq}
-use lib.Ieee.{Float, nan, inf, fin, Format, up, down, round, sum, sub, le, eq, isNan}
-use lib.Ieee.Fits.{and-l, and-r}
+use Rattle.std.proofs.Common.{◌≡◌, ℕ, zero, suc, ◌+◌, ◌-◌, ◌*◌, ◌<◌, ◌≤◌, Bool, true, false, cond, not, ◌&&◌, ◌||◌, T, eqb, ltb, ℤ, pos, refl, ap, ◌∙◌, true≢false, zero-lt-suc, le_antisymm, zero-mul, arith, eqb→eq, ltb→lt, lt→ltb, nltb→le, eq-eqb}
+use lib.Ieee.{Float, nan, inf, fin, Format, up, down, round, sum, sub, le, eq, is_nan}
+use lib.Ieee.Fits.{and_l, and_r}
 use lib.Ieee.Positive.{num, den, positive}
-use borrow.Author.Tests.{eq-eqb}
-use Rattle·std.specs.Floats.{most}
-use Rattle·card·proofs.Rounding.{le-out}
+use Rattle.std.specs.Float.{float_max}
+use Rattle.card.proofs.Rounding.{le_out}
 
 -- a number, and 0 where it has a sign
 abbrev pub Level : Float → Type 0
@@ -24,49 +17,49 @@ Level (fin true m e) = m * up e ≡ 0
 abbrev pub zeroth : Float
 zeroth = fin false 0 (pos 0)
 
-both-zero : (a b : ℕ) → T (eqb a b && (false || eqb a 0)) → (a ≡ 0) × (b ≡ 0)
-both-zero a b t =
-    let p : a ≡ b = eqb→eq a b (and-l (eqb a b) (eqb a 0) t) in
-    let q : a ≡ 0 = eqb→eq a 0 (and-r (eqb a b) (eqb a 0) t) in
+both_zero : (a b : ℕ) → T (eqb a b && (false || eqb a 0)) → (a ≡ 0) × (b ≡ 0)
+both_zero a b t =
+    let p : a ≡ b = eqb→eq a b (and_l (eqb a b) (eqb a 0) t) in
+    let q : a ≡ 0 = eqb→eq a 0 (and_r (eqb a b) (eqb a 0) t) in
     (q, omega arith)
 
 -- a float from 0 to some number is a level
-pub level-of : (x : Float) (m : ℕ) (e : ℤ) → T (le zeroth x) → T (le x (fin false m e)) → Level x
+pub level_of : (x : Float) (m : ℕ) (e : ℤ) → T (le zeroth x) → T (le x (fin false m e)) → Level x
 unfolding le
-level-of nan m e p q = absurd p
-level-of (inf true) m e p q = absurd p
-level-of (inf false) m e p q = absurd q
-level-of (fin false n d) m e p q = tt
-level-of (fin true n d) m e p q = let z = both-zero (0 * down d) (n * up d * 1) p .1 in omega arith
+level_of nan m e p q = absurd p
+level_of (inf true) m e p q = absurd p
+level_of (inf false) m e p q = absurd q
+level_of (fin false n d) m e p q = tt
+level_of (fin true n d) m e p q = let z = (both_zero (0 * down d) (n * up d * 1) p).1 in omega arith
 
 -- ---- the order of two levels is that of their fractions
-pub level-le : (x y : Float) → Level x → Level y → T (le x y) → num x * den y ≤ num y * den x
+pub level_le : (x y : Float) → Level x → Level y → T (le x y) → num x * den y ≤ num y * den x
 unfolding le
-level-le nan y p q h = absurd p
-level-le (inf s) y p q h = absurd p
-level-le (fin s m e) nan p q h = absurd q
-level-le (fin s m e) (inf t) p q h = absurd q
-level-le (fin false m e) (fin false n d) p q h = le-out (m * up e * down d) (n * up d * down e) h
-level-le (fin false m e) (fin true n d) p q h = let z = both-zero (m * up e * down d) (n * up d * down e) h in omega arith
-level-le (fin true m e) (fin t n d) p q h = let z : m * up e * down d ≡ 0 = ap (λ (k : ℕ). k * down d) p ∙ zero-mul (down d) in omega arith
+level_le nan y p q h = absurd p
+level_le (inf s) y p q h = absurd p
+level_le (fin s m e) nan p q h = absurd q
+level_le (fin s m e) (inf t) p q h = absurd q
+level_le (fin false m e) (fin false n d) p q h = le_out (m * up e * down d) (n * up d * down e) h
+level_le (fin false m e) (fin true n d) p q h = let z = both_zero (m * up e * down d) (n * up d * down e) h in omega arith
+level_le (fin true m e) (fin t n d) p q h = let z : m * up e * down d ≡ 0 = ap (λ (k : ℕ). k * down d) p ∙ zero-mul (down d) in omega arith
 
-or-split : (a b : Bool) → (T a → ⊥) → (T b → ⊥) → T (a || b) → ⊥
-or-split true b f g t = f t
-or-split false b f g t = g t
+or_split : (a b : Bool) → (T a → ⊥) → (T b → ⊥) → T (a || b) → ⊥
+or_split true b f g t = f t
+or_split false b f g t = g t
 
-pub no-le : (x y : Float) → Level x → Level y → (T (le x y) → ⊥) → num y * den x ≤ num x * den y
+pub no_le : (x y : Float) → Level x → Level y → (T (le x y) → ⊥) → num y * den x ≤ num x * den y
 unfolding le
-no-le nan y p q h = absurd p
-no-le (inf s) y p q h = absurd p
-no-le (fin s m e) nan p q h = absurd q
-no-le (fin s m e) (inf t) p q h = absurd q
-no-le (fin s m e) (fin true n d) p q h = let z : n * up d * down e ≡ 0 = ap (λ (k : ℕ). k * down e) q ∙ zero-mul (down e) in omega arith
-no-le (fin false m e) (fin false n d) p q h = go (ltb (m * up e * down d) (n * up d * down e)) (nltb→le (m * up e * down d) (n * up d * down e)) h
+no_le nan y p q h = absurd p
+no_le (inf s) y p q h = absurd p
+no_le (fin s m e) nan p q h = absurd q
+no_le (fin s m e) (inf t) p q h = absurd q
+no_le (fin s m e) (fin true n d) p q h = let z : n * up d * down e ≡ 0 = ap (λ (k : ℕ). k * down e) q ∙ zero-mul (down e) in omega arith
+no_le (fin false m e) (fin false n d) p q h = go (ltb (m * up e * down d) (n * up d * down e)) (nltb→le (m * up e * down d) (n * up d * down e)) h
   where
     go : (b : Bool) → (T (not b) → n * up d * down e ≤ m * up e * down d) → (T (b || (eqb (m * up e * down d) (n * up d * down e) && true)) → ⊥) → n * up d * down e ≤ m * up e * down d
     go true f g = absurd (g tt)
     go false f g = f tt
-no-le (fin true m e) (fin false n d) p q h = go (ltb 0 (m * up e * down d + n * up d * down e)) (nltb→le 0 (m * up e * down d + n * up d * down e)) h
+no_le (fin true m e) (fin false n d) p q h = go (ltb 0 (m * up e * down d + n * up d * down e)) (nltb→le 0 (m * up e * down d + n * up d * down e)) h
   where
     go : (b : Bool) → (T (not b) → m * up e * down d + n * up d * down e ≤ 0) → (T (b || (eqb (m * up e * down d) (n * up d * down e) && (false || eqb (m * up e * down d) 0))) → ⊥) → n * up d * down e ≤ m * up e * down d
     go true f g = absurd (g tt)
@@ -76,37 +69,37 @@ no-le (fin true m e) (fin false n d) p q h = go (ltb 0 (m * up e * down d + n * 
 abbrev pub Same : Float → Float → Type 0
 Same x y = num x * den y ≡ num y * den x
 
-pub level-eq : (x y : Float) → Level x → Level y → T (eq x y) → Same x y
+pub level_eq : (x y : Float) → Level x → Level y → T (eq x y) → Same x y
 unfolding eq
-level-eq nan y p q h = absurd p
-level-eq (inf s) y p q h = absurd p
-level-eq (fin s m e) nan p q h = absurd q
-level-eq (fin s m e) (inf t) p q h = absurd q
-level-eq (fin s m e) (fin t n d) p q h = eqb→eq (m * up e * down d) (n * up d * down e) (and-l _ _ h)
+level_eq nan y p q h = absurd p
+level_eq (inf s) y p q h = absurd p
+level_eq (fin s m e) nan p q h = absurd q
+level_eq (fin s m e) (inf t) p q h = absurd q
+level_eq (fin s m e) (fin t n d) p q h = eqb→eq (m * up e * down d) (n * up d * down e) (and_l _ _ h)
 
-pub not-nan : (x : Float) → Level x → isNan x ≡ false
-unfolding isNan
-not-nan nan p = absurd p
-not-nan (inf s) p = absurd p
-not-nan (fin s m e) p = refl
+pub not_nan : (x : Float) → Level x → is_nan x ≡ false
+unfolding is_nan
+not_nan nan p = absurd p
+not_nan (inf s) p = absurd p
+not_nan (fin s m e) p = refl
 
 -- ---- the greater of two levels
-pub most-level : (x y : Float) → Level x → Level y → Level (most x y)
-most-level x y p q = go (le y x || isNan y)
+pub most_level : (x y : Float) → Level x → Level y → Level (float_max x y)
+most_level x y p q = go (le y x || is_nan y)
   where
     go : (b : Bool) → Level (cond b x y)
     go true = p
     go false = q
 
-pub most-comm : (x y : Float) → Level x → Level y → Same (most x y) (most y x)
-most-comm x y p q = rw (not-nan x p, not-nan y q) (go (le y x) (le x y) (level-le y x q p) (no-le y x q p) (level-le x y p q) (no-le x y p q))
+pub most_comm : (x y : Float) → Level x → Level y → Same (float_max x y) (float_max y x)
+most_comm x y p q = rw (not_nan x p, not_nan y q) (go (le y x) (le x y) (level_le y x q p) (no_le y x q p) (level_le x y p q) (no_le x y p q))
   where
     go : (a b : Bool) → (T a → num y * den x ≤ num x * den y) → ((T a → ⊥) → num x * den y ≤ num y * den x) → (T b → num x * den y ≤ num y * den x) → ((T b → ⊥) → num y * den x ≤ num x * den y)
         → Same (cond (a || false) x y) (cond (b || false) y x)
-    go true true f g h k = le-antisymm (h tt) (f tt)
+    go true true f g h k = le_antisymm (h tt) (f tt)
     go true false f g h k = refl
     go false true f g h k = refl
-    go false false f g h k = le-antisymm (k (λ t. t)) (g (λ t. t))
+    go false false f g h k = le_antisymm (k (λ t. t)) (g (λ t. t))
 
 -- ---- the difference of two levels is their gap, rounded once
 abbrev pub gap : ℕ → ℕ → ℕ
@@ -150,7 +143,7 @@ difference f (fin s m e) nan p q = absurd q
 difference f (fin s m e) (inf t) p q = absurd q
 difference f (fin false m e) (fin false n d) p q =
     let r = apart f (m * up e * down d) (n * up d * down e) (down e * down d) in
-    record { sign = r .0; side = r .1; is = r .2 }
+    record { sign = r.0; side = r.1; is = r.2 }
 difference f (fin false m e) (fin true n d) p q =
     let a = m * up e * down d in
     let b = n * up d * down e in
@@ -169,13 +162,13 @@ difference f (fin true m e) (fin true n d) p q =
     record { sign = false; side = omega arith; is = noughts f a b (down e * down d) y z }
 
 -- a level that is not 0 is above 0
-pub level-positive : (x : Float) → Level x → eq x zeroth ≡ false → T (positive x)
+pub level_positive : (x : Float) → Level x → eq x zeroth ≡ false → T (positive x)
 unfolding eq
-level-positive nan p h = absurd p
-level-positive (inf s) p h = absurd p
-level-positive (fin true m e) p h =
+level_positive nan p h = absurd p
+level_positive (inf s) p h = absurd p
+level_positive (fin true m e) p h =
     let a : m * up e * 1 ≡ 0 = omega arith in
     absurd (true≢false (rw (eq-eqb (m * up e * 1) (0 * down e) (omega arith), eq-eqb (m * up e * 1) 0 a) at h))
-level-positive (fin false zero e) p h =
+level_positive (fin false zero e) p h =
     absurd (true≢false (rw (eq-eqb (0 * up e * 1) (0 * down e) (omega arith)) at h))
-level-positive (fin false (suc m) e) p h = lt→ltb 0 (suc m) (zero-lt-suc m)
+level_positive (fin false (suc m) e) p h = lt→ltb 0 (suc m) (zero-lt-suc m)

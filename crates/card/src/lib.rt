@@ -1,12 +1,10 @@
 // Card readings to values: what a reading of the line card says of a frame's two elements.
-ghost use mathlib.Core.Path.{_≡_};
-ghost use mathlib.Core.Bool.{true, false};
-ghost use lib.Dec.{T};
-ghost use lib.IntN.{pos};
-ghost use lib.Ieee.{fin, binary32, mul, toSigned, le, lt};
-ghost use Rattle·std.specs.Vec.{made};
-ghost use Rattle·card·specs.Floats.{full-size, is-level, is-balance, share as shareOf, strength as strengthOf};
-ghost use Rattle·card·specs.Readings.{in-range, first-one, first-zero, second-one, second-zero, greatest as greatestOf, levels-pair, answer, IsValue, Promised};
+ghost use Rattle.std.specs.Prelude.{◌≡◌, true, false, T, pos, IfOk};
+ghost use Rattle.std.specs.Float.{fin, binary32};
+ghost use Rattle.std.specs.Float.Ieee.{mul, to_signed, le, lt};
+ghost use Rattle.card.specs.Floats.{full_size, is_level, is_balance, share as share_of, strength as strength_of};
+ghost use Rattle.card.specs.Readings.{in_range, first_one, first_zero, second_one, second_zero, greatest as greatest_of, levels_pair, answer, IsValue, Promised};
+
 use refusal::Refusal;
 use std::num::truncating_f32_to_i64;
 
@@ -37,58 +35,58 @@ pub enum Reading {
 }
 
 fn is_level(x: f32) -> bool
-    ensures { λ r. ⌜ r ≡ is-level x ⌝ }
+    ensures { result ≡ is_level x }
 {
     0.0 <= x && x <= GREATEST_LEVEL
 }
 
 fn is_balance(x: f32) -> bool
-    ensures { λ r. ⌜ r ≡ is-balance x ⌝ }
+    ensures { result ≡ is_balance x }
 {
     -1.0 <= x && x <= 1.0
 }
 
 // By how much the level of one side exceeds the other, as a share of the greatest level.
 fn share(ones: f32, zeros: f32, greatest: f32) -> f32
-    ensures { λ r. ⌜ r ≡ shareOf ones zeros greatest ⌝ }
+    ensures { result ≡ share_of ones zeros greatest }
 {
     (ones - zeros) / greatest
 }
 
 fn at_full_strength(part: f32) -> f32
-    ensures { λ r. ⌜ r ≡ mul binary32 part full-size ⌝ }
+    ensures { result ≡ mul binary32 part full_size }
 {
     part * FULL_STRENGTH
 }
 
 fn without_fraction(x: f32) -> i64
-    requires low { ⌜ T (le (fin true 1 (pos 63)) x) ⌝ }
-    requires high { ⌜ T (lt x (fin false 1 (pos 63))) ⌝ }
-    ensures { λ r. ⌜ r ≡ toSigned 63 x ⌝ }
+    requires low { T (le (fin true 1 (pos 63)) x) }
+    requires high { T (lt x (fin false 1 (pos 63))) }
+    ensures { result ≡ to_signed 63 x }
 {
     truncating_f32_to_i64(x)
 }
 
 // The value of a share. It fits without any clamping: 127 times a float from -1 to 1 rounds to at most 127 in size.
 fn strength(part: f32) -> i8
-    requires { ⌜ T (is-balance part) ⌝ }
-    ensures is { λ r. ⌜ r ≡ strengthOf part ⌝ }
-    ensures value { λ r. ⌜ IsValue r ⌝ }
+    requires { T (is_balance part) }
+    ensures is { result ≡ strength_of part }
+    ensures value { IsValue result }
 {
     without_fraction(at_full_strength(part)) as i8
 }
 
 fn balance_pair(first: f32, second: f32) -> (i8, i8)
-    requires { ⌜ T (is-balance first) ⌝ ∗ ⌜ T (is-balance second) ⌝ }
-    ensures is { λ r. ⌜ r ≡ (strengthOf first, strengthOf second) ⌝ }
-    ensures promised { λ r. ⌜ Promised (Reading.Balance first second) r ⌝ }
+    requires { (T (is_balance first)) × (T (is_balance second)) }
+    ensures is { result ≡ (strength_of first, strength_of second) }
+    ensures promised { Promised (Reading.Balance first second) result }
 {
     (strength(first), strength(second))
 }
 
 impl Levels {
     fn in_range(&self) -> bool
-        ensures { λ r. ⌜ r ≡ in-range (now (self .entry)) ⌝ }
+        ensures { result ≡ in_range self.now }
     {
         is_level(self.hz400)
             && is_level(self.hz600)
@@ -98,39 +96,39 @@ impl Levels {
 
     // The greater level of the two tones with a 1 in the first place.
     fn first_one(&self) -> f32
-        ensures { λ r. ⌜ r ≡ first-one (now (self .entry)) ⌝ }
+        ensures { result ≡ first_one self.now }
     {
         self.hz800.max(self.hz1000)
     }
 
     fn first_zero(&self) -> f32
-        ensures { λ r. ⌜ r ≡ first-zero (now (self .entry)) ⌝ }
+        ensures { result ≡ first_zero self.now }
     {
         self.hz400.max(self.hz600)
     }
 
     fn second_one(&self) -> f32
-        ensures { λ r. ⌜ r ≡ second-one (now (self .entry)) ⌝ }
+        ensures { result ≡ second_one self.now }
     {
         self.hz600.max(self.hz1000)
     }
 
     fn second_zero(&self) -> f32
-        ensures { λ r. ⌜ r ≡ second-zero (now (self .entry)) ⌝ }
+        ensures { result ≡ second_zero self.now }
     {
         self.hz400.max(self.hz800)
     }
 
     fn greatest(&self) -> f32
-        ensures { λ r. ⌜ r ≡ greatestOf (now (self .entry)) ⌝ }
+        ensures { result ≡ greatest_of self.now }
     {
         self.first_zero().max(self.first_one())
     }
 
     fn pair(&self) -> (i8, i8)
-        requires { ⌜ T (in-range (now self)) ⌝ }
-        ensures is { λ r. ⌜ r ≡ levels-pair (now (self .entry)) ⌝ }
-        ensures promised { λ r. ⌜ Promised (Reading.Levels (now (self .entry))) r ⌝ }
+        requires { T (in_range self.now) }
+        ensures is { result ≡ levels_pair self.now }
+        ensures promised { Promised (Reading.Levels self.now) result }
     {
         let greatest = self.greatest();
         if greatest == 0.0 {
@@ -145,8 +143,8 @@ impl Levels {
 impl Reading {
     // The values of the frame's two elements. A level or a balance outside its range is refused.
     pub fn values(self) -> Result<(i8, i8), Refusal>
-        ensures is { λ r. ⌜ r ≡ answer self ⌝ }
-        ensures promised { λ r. ⌜ made r (λ v. Promised self v) ⌝ }
+        ensures is { result ≡ answer self }
+        ensures promised { IfOk result (λ v. Promised self v) }
     {
         match self {
             Reading::Levels(levels) if levels.in_range() => Ok(levels.pair()),
@@ -162,9 +160,6 @@ impl Reading {
 #[cfg(test)]
 mod tests {
     use super::*;
-    use refusal::RefusalDebug;
-    use refusal::RefusalPartialEq;
-    use std::test::*;
 
     // Levels and their pairs, worked out apart from this code, in exact fractions rounded to 24 binary digits.
     const LEVELS: [([f32; 4], (i8, i8)); 29] = [
@@ -264,35 +259,33 @@ mod tests {
     }
 
     #[test]
-    fn worked_levels() -> Result<(), Fail> {
+    fn worked_levels(rt: HostRuntime) {
         for (each, pair) in LEVELS {
-            check_eq(levels(each), Ok(pair))?;
+            assert_eq!(rt; levels(each), Ok(pair));
         }
-        Ok(())
     }
 
     #[test]
-    fn worked_balances() -> Result<(), Fail> {
+    fn worked_balances(rt: HostRuntime) {
         for (x, value) in BALANCES {
-            check_eq(Reading::Balance(x, 1.0).values(), Ok((value, 127)))?;
-            check_eq(Reading::Balance(-1.0, x).values(), Ok((-127, value)))?;
+            assert_eq!(rt; Reading::Balance(x, 1.0).values(), Ok((value, 127)));
+            assert_eq!(rt; Reading::Balance(-1.0, x).values(), Ok((-127, value)));
         }
-        check_eq(Reading::Lost.values(), Ok((0, 0)))
+        assert_eq!(rt; Reading::Lost.values(), Ok((0, 0)));
     }
 
     #[test]
-    fn outside_the_ranges() -> Result<(), Fail> {
+    fn outside_the_ranges(rt: HostRuntime) {
         let refused = Err(Refusal::ReadingOutOfRange);
         for x in NO_LEVELS {
-            check_eq(levels([x, 1.0, 1.0, 1.0]), refused)?;
-            check_eq(levels([1.0, x, 1.0, 1.0]), refused)?;
-            check_eq(levels([1.0, 1.0, x, 1.0]), refused)?;
-            check_eq(levels([0.0, 0.0, 0.0, x]), refused)?;
+            assert_eq!(rt; levels([x, 1.0, 1.0, 1.0]), refused);
+            assert_eq!(rt; levels([1.0, x, 1.0, 1.0]), refused);
+            assert_eq!(rt; levels([1.0, 1.0, x, 1.0]), refused);
+            assert_eq!(rt; levels([0.0, 0.0, 0.0, x]), refused);
         }
         for x in NO_BALANCES {
-            check_eq(Reading::Balance(x, 0.0).values(), refused)?;
-            check_eq(Reading::Balance(0.0, x).values(), refused)?;
+            assert_eq!(rt; Reading::Balance(x, 0.0).values(), refused);
+            assert_eq!(rt; Reading::Balance(0.0, x).values(), refused);
         }
-        Ok(())
     }
 }

@@ -1,18 +1,10 @@
 -- The octets of a character: what they are for each range of numbers, and which ranges they lie in.
-use mathlib.Core.Path.{_≡_, refl, sym, ap, subst, _∙_}
-use mathlib.Core.Bool.{Bool, true, false, cond, _&&_}
-use mathlib.Core.Logic.{_⊎_, inl, inr, ⊎-elim}
-use mathlib.Core.List.{List, [], _∷_, _++_}
-use native.Mathlib.Nat.{le-trans}
-use Prim.Native.Nat.{ℕ, suc, suc-le-suc, _+_, _-_, _*_, _/_, _%_, _≤_, _<_}
-use native.Mathlib.Omega.{arith}
-use lib.Dec.{ltb, leb, eqb, lit≤}
-use lib.ListN.{length, getD, drop}
-use lib.Utf8.{scalar, encode, next, scalar-cases, low-scalar}
-use Rattle·std.proofs.shelf.Tests.{lt-ltb, le-ltb, le-leb, cond-true, cond-false, cond-both, eqb-true, cases-lt}
-use Rattle·std.proofs.shelf.Text.{encode-ascii}
-use Rattle·std.specs.Reads.{NoChar}
-use Rattle·character·specs.Utf8Ranges.{Tail, Second, least-second, greatest-second}
+use Rattle.std.proofs.Common.{◌≡◌, ℕ, suc, ◌+◌, ◌-◌, ◌*◌, ◌/◌, ◌%◌, ◌<◌, ◌≤◌, Bool, true, false, cond, ◌&&◌, eqb, ltb, leb, ◌⊎◌, List, [], ◌∷◌, ◌++◌, length, get_or, drop, sym, refl, ap, ◌∙◌, subst, inl, inr, ⊎_elim, suc-le-suc, le_trans, arith, lit≤}
+use lib.Utf8.{scalar, encode, next, scalar_cases, low_scalar}
+use Rattle.std.proofs.lemmas.Bool.{lt-ltb, le-ltb, le-leb, cond-true, cond-false, cond_both, eqb-true, cases_lt}
+use Rattle.std.proofs.lemmas.Str.{encode_ascii}
+use Rattle.std.specs.Str.{StartsWithNoChar}
+use Rattle.character.specs.Utf8Ranges.{Tail, Second, least_second, greatest_second}
 
 pub two : (c : ℕ) → 128 ≤ c → c < 2048 → encode c ≡ (192 + c / 64) ∷ next c ∷ []
 unfolding encode
@@ -35,15 +27,15 @@ pub data Form (c : ℕ) : Type 0 where
   form4 : 65536 ≤ c → c < 1114112 → encode c ≡ (240 + c / 262144) ∷ next (c / 4096) ∷ next (c / 64) ∷ next c ∷ [] → Form c
 
 pub form : (c : ℕ) → scalar c ≡ true → Form c
-form c s = by (cases-lt c 128) (cases-lt c 2048) (cases-lt c 65536) (scalar-cases c s)
+form c s = by (cases_lt c 128) (cases_lt c 2048) (cases_lt c 65536) (scalar_cases c s)
   where
     by : (c < 128) ⊎ (128 ≤ c) → (c < 2048) ⊎ (2048 ≤ c) → (c < 65536) ⊎ (65536 ≤ c) → (c < 55296) ⊎ ((57344 ≤ c) × (c < 1114112)) → Form c
-    by (inl h) _ _ _ = form1 h (encode-ascii c h)
+    by (inl h) _ _ _ = form1 h (encode_ascii c h)
     by (inr l) (inl h) _ _ = form2 l h (two c l h)
     by (inr _) (inr l) (inl h) (inl k) = form3 l h (inl k) (three c l h)
-    by (inr _) (inr l) (inl h) (inr k) = form3 l h (inr (k .0)) (three c l h)
+    by (inr _) (inr l) (inl h) (inr k) = form3 l h (inr k.0) (three c l h)
     by (inr _) (inr _) (inr l) (inl k) = absurd (omega arith)
-    by (inr _) (inr _) (inr l) (inr k) = form4 l (k .1) (four c l)
+    by (inr _) (inr _) (inr l) (inr k) = form4 l k.1 (four c l)
 
 -- which octets may stand second
 record Behind (x y : ℕ) : Type 0 where
@@ -55,24 +47,24 @@ record Behind (x y : ℕ) : Type 0 where
 
 second : (x y : ℕ) → Behind x y → Second x y
 second x y h = (
-  cond-both (eqb x 224) 160 _ (λ n. n ≤ y) (λ e. h .shortest3 (eqb-true x 224 e)) (λ _. cond-both (eqb x 240) 144 128 (λ n. n ≤ y) (λ e. h .shortest4 (eqb-true x 240 e)) (λ _. h .tail .0)),
-  cond-both (eqb x 237) 159 _ (λ n. y ≤ n) (λ e. omega (arith, h .surrogate (eqb-true x 237 e))) (λ _. cond-both (eqb x 244) 143 191 (λ n. y ≤ n) (λ e. omega (arith, h .past (eqb-true x 244 e))) (λ _. omega (arith, h .tail .1))),
+  cond_both (eqb x 224) 160 _ (λ n. n ≤ y) (λ e. h.shortest3 (eqb-true x 224 e)) (λ _. cond_both (eqb x 240) 144 128 (λ n. n ≤ y) (λ e. h.shortest4 (eqb-true x 240 e)) (λ _. h.tail.0)),
+  cond_both (eqb x 237) 159 _ (λ n. y ≤ n) (λ e. omega (arith, h.surrogate (eqb-true x 237 e))) (λ _. cond_both (eqb x 244) 143 191 (λ n. y ≤ n) (λ e. omega (arith, h.past (eqb-true x 244 e))) (λ _. omega (arith, h.tail.1))),
 )
 
 behind : (x y : ℕ) → Second x y → Behind x y
 behind x y h =
-    let low : 128 ≤ least-second x = cond-both (eqb x 224) 160 _ (λ n. 128 ≤ n) (λ _. lit≤ tt) (λ _. cond-both (eqb x 240) 144 128 (λ n. 128 ≤ n) (λ _. lit≤ tt) (λ _. lit≤ tt)) in
-    let top : greatest-second x ≤ 191 = cond-both (eqb x 237) 159 _ (λ n. n ≤ 191) (λ _. lit≤ tt) (λ _. cond-both (eqb x 244) 143 191 (λ n. n ≤ 191) (λ _. lit≤ tt) (λ _. lit≤ tt)) in
+    let low : 128 ≤ least_second x = cond_both (eqb x 224) 160 _ (λ n. 128 ≤ n) (λ _. lit≤ tt) (λ _. cond_both (eqb x 240) 144 128 (λ n. 128 ≤ n) (λ _. lit≤ tt) (λ _. lit≤ tt)) in
+    let top : greatest_second x ≤ 191 = cond_both (eqb x 237) 159 _ (λ n. n ≤ 191) (λ _. lit≤ tt) (λ _. cond_both (eqb x 244) 143 191 (λ n. n ≤ 191) (λ _. lit≤ tt) (λ _. lit≤ tt)) in
     record {
-      tail = (le-trans low (h .0), lt-of (le-trans (h .1) top));
-      shortest3 = λ e. subst (λ n. least-second n ≤ y) e (h .0);
-      shortest4 = λ e. subst (λ n. least-second n ≤ y) e (h .0);
-      surrogate = λ e. lt-of (subst (λ n. y ≤ greatest-second n) e (h .1));
-      past = λ e. lt-of (subst (λ n. y ≤ greatest-second n) e (h .1));
+      tail = (le_trans low h.0, lt_of (le_trans h.1 top));
+      shortest3 = λ e. subst (λ n. least_second n ≤ y) e h.0;
+      shortest4 = λ e. subst (λ n. least_second n ≤ y) e h.0;
+      surrogate = λ e. lt_of (subst (λ n. y ≤ greatest_second n) e h.1);
+      past = λ e. lt_of (subst (λ n. y ≤ greatest_second n) e h.1);
     }
   where
-    lt-of : {m n : ℕ} → m ≤ n → m < suc n
-    lt-of k = suc-le-suc k
+    lt_of : {m n : ℕ} → m ≤ n → m < suc n
+    lt_of k = suc-le-suc k
 
 -- of n octets that begin x, y, z, w: they begin with a character
 pub record Ranged (n x y z w : ℕ) : Type 0 where
@@ -81,7 +73,7 @@ pub record Ranged (n x y z w : ℕ) : Type 0 where
   pub fourth : 240 ≤ x → (3 < n) × Tail w
 
 abbrev pub RangedAt : List ℕ → Type 0
-RangedAt l = Ranged (length l) (getD l 0 0) (getD l 1 0) (getD l 2 0) (getD l 3 0)
+RangedAt l = Ranged (length l) (get_or l 0 0) (get_or l 1 0) (get_or l 2 0) (get_or l 3 0)
 
 ranged : (c : ℕ) (r : List ℕ) → Form c → RangedAt (encode c ++ r)
 ranged c r (form1 h e) = subst (λ p. RangedAt (p ++ r)) (sym e) (record {
@@ -114,7 +106,7 @@ ranged c r (form3 l h k e) = subst (λ p. RangedAt (p ++ r)) (sym e) (record {
       tail = (omega arith, omega arith);
       shortest3 = λ q. omega arith;
       shortest4 = λ q. absurd (omega arith);
-      surrogate = λ q. ⊎-elim (λ v. omega arith) (λ v. absurd (omega arith)) k;
+      surrogate = λ q. ⊎_elim (λ v. omega arith) (λ v. absurd (omega arith)) k;
       past = λ q. absurd (omega arith);
     }),
   );
@@ -139,8 +131,8 @@ ranged c r (form4 l h e) = subst (λ p. RangedAt (p ++ r)) (sym e) (record {
 })
 
 -- octets that are not so ranged begin with no character
-pub no-char : (xs : List ℕ) → (RangedAt xs → ⊥) → NoChar xs
-no-char xs h c r s e = h (subst RangedAt (sym e) (ranged c r (form c s)))
+pub no_char : (xs : List ℕ) → (RangedAt xs → ⊥) → StartsWithNoChar xs
+no_char xs h c r s e = h (subst RangedAt (sym e) (ranged c r (form c s)))
 
 -- octets that begin with those of a character
 abbrev pub Begins : List ℕ → ℕ → Type 0
@@ -152,42 +144,42 @@ begun xs p c e h = subst (λ q. xs ≡ q ++ drop (length q) xs) (sym e) h
 high : (c : ℕ) → 57344 ≤ c → c < 1114112 → scalar c ≡ true
 high c l u = cond-false _ _ _ (le-ltb c 55296 (omega arith)) ∙ (λ k. le-leb 57344 c l k && lt-ltb c 1114112 u k)
 
-pub of-one : (xs : List ℕ) → 0 < length xs → getD xs 0 0 < 128 → Begins xs (getD xs 0 0)
-of-one [] l h = absurd (omega arith)
-of-one (x ∷ xs) l h = (low-scalar x (omega arith), begun (x ∷ xs) (x ∷ []) x (encode-ascii x h) refl)
+pub of_one : (xs : List ℕ) → 0 < length xs → get_or xs 0 0 < 128 → Begins xs (get_or xs 0 0)
+of_one [] l h = absurd (omega arith)
+of_one (x ∷ xs) l h = (low_scalar x (omega arith), begun (x ∷ xs) (x ∷ []) x (encode_ascii x h) refl)
 
-pub of-two : (xs : List ℕ) → 1 < length xs → 194 ≤ getD xs 0 0 → getD xs 0 0 < 224 → Tail (getD xs 1 0) → Begins xs ((getD xs 0 0 - 192) * 64 + (getD xs 1 0 - 128))
-of-two [] l a b t = absurd (omega arith)
-of-two (x ∷ []) l a b t = absurd (omega arith)
-of-two (x ∷ y ∷ xs) l a b t =
+pub of_two : (xs : List ℕ) → 1 < length xs → 194 ≤ get_or xs 0 0 → get_or xs 0 0 < 224 → Tail (get_or xs 1 0) → Begins xs ((get_or xs 0 0 - 192) * 64 + (get_or xs 1 0 - 128))
+of_two [] l a b t = absurd (omega arith)
+of_two (x ∷ []) l a b t = absurd (omega arith)
+of_two (x ∷ y ∷ xs) l a b t =
     let c : ℕ = (x - 192) * 64 + (y - 128) in
     let p : x ≡ 192 + c / 64 = omega arith in
     let q : y ≡ next c = omega arith in
-    (low-scalar c (omega arith), begun (x ∷ y ∷ xs) (x ∷ y ∷ []) c (two c (omega arith) (omega arith) ∙ sym (λ k. p k ∷ q k ∷ [])) refl)
+    (low_scalar c (omega arith), begun (x ∷ y ∷ xs) (x ∷ y ∷ []) c (two c (omega arith) (omega arith) ∙ sym (λ k. p k ∷ q k ∷ [])) refl)
 
-pub of-three : (xs : List ℕ) → 2 < length xs → 224 ≤ getD xs 0 0 → getD xs 0 0 < 240 → Second (getD xs 0 0) (getD xs 1 0) → Tail (getD xs 2 0)
-    → Begins xs ((getD xs 0 0 - 224) * 4096 + (getD xs 1 0 - 128) * 64 + (getD xs 2 0 - 128))
-of-three [] l a b t u = absurd (omega arith)
-of-three (x ∷ []) l a b t u = absurd (omega arith)
-of-three (x ∷ y ∷ []) l a b t u = absurd (omega arith)
-of-three (x ∷ y ∷ z ∷ xs) l a b t u =
+pub of_three : (xs : List ℕ) → 2 < length xs → 224 ≤ get_or xs 0 0 → get_or xs 0 0 < 240 → Second (get_or xs 0 0) (get_or xs 1 0) → Tail (get_or xs 2 0)
+    → Begins xs ((get_or xs 0 0 - 224) * 4096 + (get_or xs 1 0 - 128) * 64 + (get_or xs 2 0 - 128))
+of_three [] l a b t u = absurd (omega arith)
+of_three (x ∷ []) l a b t u = absurd (omega arith)
+of_three (x ∷ y ∷ []) l a b t u = absurd (omega arith)
+of_three (x ∷ y ∷ z ∷ xs) l a b t u =
     let i : Behind x y = behind x y t in
     let c : ℕ = (x - 224) * 4096 + (y - 128) * 64 + (z - 128) in
     let p : x ≡ 224 + c / 4096 = omega arith in
     let h : c / 64 ≡ (x - 224) * 64 + (y - 128) = omega arith in
     let q : y ≡ next (c / 64) = subst (λ (m : ℕ). y ≡ next m) (sym h) (omega arith) in
     let r : z ≡ next c = omega arith in
-    let least : 2048 ≤ c = ⊎-elim (λ (k : x < 225). let e : x ≡ 224 = omega arith in omega (arith, i .shortest3 e)) (λ k. omega arith) (cases-lt x 225) in
-    let sc : scalar c ≡ true = ⊎-elim (λ k. low-scalar c k) (λ k. high c (⊎-elim (λ (v : x < 238). let e : x ≡ 237 = omega arith in absurd (omega (arith, i .surrogate e))) (λ v. omega arith) (cases-lt x 238)) (omega arith)) (cases-lt c 55296) in
+    let least : 2048 ≤ c = ⊎_elim (λ (k : x < 225). let e : x ≡ 224 = omega arith in omega (arith, i.shortest3 e)) (λ k. omega arith) (cases_lt x 225) in
+    let sc : scalar c ≡ true = ⊎_elim (λ k. low_scalar c k) (λ k. high c (⊎_elim (λ (v : x < 238). let e : x ≡ 237 = omega arith in absurd (omega (arith, i.surrogate e))) (λ v. omega arith) (cases_lt x 238)) (omega arith)) (cases_lt c 55296) in
     (sc, begun (x ∷ y ∷ z ∷ xs) (x ∷ y ∷ z ∷ []) c (three c least (omega arith) ∙ sym (λ k. p k ∷ q k ∷ r k ∷ [])) refl)
 
-pub of-four : (xs : List ℕ) → 3 < length xs → 240 ≤ getD xs 0 0 → getD xs 0 0 < 245 → Second (getD xs 0 0) (getD xs 1 0) → Tail (getD xs 2 0) → Tail (getD xs 3 0)
-    → Begins xs (((getD xs 0 0 - 240) * 4096 + (getD xs 1 0 - 128) * 64 + (getD xs 2 0 - 128)) * 64 + (getD xs 3 0 - 128))
-of-four [] l a b t u v = absurd (omega arith)
-of-four (x ∷ []) l a b t u v = absurd (omega arith)
-of-four (x ∷ y ∷ []) l a b t u v = absurd (omega arith)
-of-four (x ∷ y ∷ z ∷ []) l a b t u v = absurd (omega arith)
-of-four (x ∷ y ∷ z ∷ o ∷ xs) l a b t u v =
+pub of_four : (xs : List ℕ) → 3 < length xs → 240 ≤ get_or xs 0 0 → get_or xs 0 0 < 245 → Second (get_or xs 0 0) (get_or xs 1 0) → Tail (get_or xs 2 0) → Tail (get_or xs 3 0)
+    → Begins xs (((get_or xs 0 0 - 240) * 4096 + (get_or xs 1 0 - 128) * 64 + (get_or xs 2 0 - 128)) * 64 + (get_or xs 3 0 - 128))
+of_four [] l a b t u v = absurd (omega arith)
+of_four (x ∷ []) l a b t u v = absurd (omega arith)
+of_four (x ∷ y ∷ []) l a b t u v = absurd (omega arith)
+of_four (x ∷ y ∷ z ∷ []) l a b t u v = absurd (omega arith)
+of_four (x ∷ y ∷ z ∷ o ∷ xs) l a b t u v =
     let f : Behind x y = behind x y t in
     let d : ℕ = (x - 240) * 4096 + (y - 128) * 64 + (z - 128) in
     let c : ℕ = d * 64 + (o - 128) in
@@ -196,9 +188,9 @@ of-four (x ∷ y ∷ z ∷ o ∷ xs) l a b t u v =
     let q : y ≡ next (c / 4096) = omega arith in
     let r : z ≡ next (c / 64) = subst (λ (m : ℕ). z ≡ next m) (sym e) (omega arith) in
     let i : o ≡ next c = omega arith in
-    let least : 65536 ≤ c = ⊎-elim (λ (k : x < 241). let e : x ≡ 240 = omega arith in omega (arith, f .shortest4 e)) (λ k. omega arith) (cases-lt x 241) in
-    let most : c < 1114112 = ⊎-elim (λ k. omega arith) (λ (k : 244 ≤ x). let e : x ≡ 244 = omega arith in omega (arith, f .past e)) (cases-lt x 244) in
+    let least : 65536 ≤ c = ⊎_elim (λ (k : x < 241). let e : x ≡ 240 = omega arith in omega (arith, f.shortest4 e)) (λ k. omega arith) (cases_lt x 241) in
+    let most : c < 1114112 = ⊎_elim (λ k. omega arith) (λ (k : 244 ≤ x). let e : x ≡ 244 = omega arith in omega (arith, f.past e)) (cases_lt x 244) in
     (high c (omega arith) most, begun (x ∷ y ∷ z ∷ o ∷ xs) (x ∷ y ∷ z ∷ o ∷ []) c (four c least ∙ sym (λ k. p k ∷ q k ∷ r k ∷ i k ∷ [])) refl)
 
-pub two-tail : (x y : ℕ) → Second x y → Tail y
-two-tail x y h = behind x y h .tail
+pub two_tail : (x y : ℕ) → Second x y → Tail y
+two_tail x y h = (behind x y h).tail

@@ -1,22 +1,18 @@
 // One character of UTF-8, by the ranges that its octets lie in.
-ghost use mathlib.Core.Path.{_≡_};
-ghost use mathlib.Core.Bool.{true};
-ghost use Prim.Native.Nat.{_≤_, _<_};
-ghost use lib.ListN.{length, getD};
-ghost use lib.Utf8.{scalar};
-ghost use Rattle·std.specs.Orderings.{Decides};
-ghost use Rattle·character·specs.Utf8Ranges.{Tail, Second, least-second, greatest-second, Found};
+ghost use Rattle.std.specs.Prelude.{◌≡◌, ◌<◌, ◌≤◌, true, length, Decides, slice_index};
+ghost use Rattle.std.proofs.Math.Utf8.{scalar};
+ghost use Rattle.character.specs.Utf8Ranges.{Tail, Second, least_second, greatest_second, Found};
 
 // Whether an octet may stand third or fourth.
 fn is_tail(octet: u8) -> bool
-    ensures { λ r. ⌜ Decides r (Tail octet) ⌝ }
+    ensures { Decides result (Tail octet) }
 {
     octet >= 0x80 && octet < 0xC0
 }
 
 // The least octet that may stand second.
 fn least_second(first: u8) -> u8
-    ensures { λ r. ⌜ r ≡ least-second first ⌝ }
+    ensures { result ≡ least_second first }
 {
     match first {
         0xE0 => 0xA0,
@@ -27,7 +23,7 @@ fn least_second(first: u8) -> u8
 
 // The greatest octet that may stand second.
 fn greatest_second(first: u8) -> u8
-    ensures { λ r. ⌜ r ≡ greatest-second first ⌝ }
+    ensures { result ≡ greatest_second first }
 {
     match first {
         0xED => 0x9F,
@@ -38,15 +34,15 @@ fn greatest_second(first: u8) -> u8
 
 // Whether an octet may stand second, behind a first.
 fn may_follow(first: u8, second: u8) -> bool
-    ensures { λ r. ⌜ Decides r (Second first second) ⌝ }
+    ensures { Decides result (Second first second) }
 {
     least_second(first) <= second && second <= greatest_second(first)
 }
 
 // The character of a scalar value.
 fn scalar_value(number: u32) -> char
-    requires { ⌜ scalar number ≡ true ⌝ }
-    ensures { λ r. ⌜ r ≡ number ⌝ }
+    requires { scalar number ≡ true }
+    ensures { result ≡ number }
 {
     match char::from_u32(number) {
         Some(c) => c,
@@ -56,8 +52,8 @@ fn scalar_value(number: u32) -> char
 
 // The character of two octets.
 fn two(octets: &[u8]) -> Option<char>
-    requires { ⌜ (0 < length (now octets)) × (0xC2 ≤ getD (now octets) 0 0) × (getD (now octets) 0 0 < 0xE0) ⌝ }
-    ensures { λ r. ⌜ Found (now (octets .entry)) r ⌝ }
+    requires { (0 < length octets.now) × (0xC2 ≤ slice_index octets.now 0) × (slice_index octets.now 0 < 0xE0) }
+    ensures { Found octets.now result }
 {
     if octets.len() < 2 {
         return None;
@@ -71,8 +67,8 @@ fn two(octets: &[u8]) -> Option<char>
 
 // The character of three octets.
 fn three(octets: &[u8]) -> Option<char>
-    requires { ⌜ (0 < length (now octets)) × (0xE0 ≤ getD (now octets) 0 0) × (getD (now octets) 0 0 < 0xF0) ⌝ }
-    ensures { λ r. ⌜ Found (now (octets .entry)) r ⌝ }
+    requires { (0 < length octets.now) × (0xE0 ≤ slice_index octets.now 0) × (slice_index octets.now 0 < 0xF0) }
+    ensures { Found octets.now result }
 {
     if octets.len() < 3 {
         return None;
@@ -92,8 +88,8 @@ fn three(octets: &[u8]) -> Option<char>
 
 // The character of four octets.
 fn four(octets: &[u8]) -> Option<char>
-    requires { ⌜ (0 < length (now octets)) × (0xF0 ≤ getD (now octets) 0 0) × (getD (now octets) 0 0 < 0xF5) ⌝ }
-    ensures { λ r. ⌜ Found (now (octets .entry)) r ⌝ }
+    requires { (0 < length octets.now) × (0xF0 ≤ slice_index octets.now 0) × (slice_index octets.now 0 < 0xF5) }
+    ensures { Found octets.now result }
 {
     if octets.len() < 4 {
         return None;
@@ -117,8 +113,8 @@ fn four(octets: &[u8]) -> Option<char>
 
 // The character at the front, where one stands there.
 pub fn character(octets: &[u8]) -> Option<char>
-    requires { ⌜ 0 < length (now octets) ⌝ }
-    ensures { λ r. ⌜ Found (now (octets .entry)) r ⌝ }
+    requires { 0 < length octets.now }
+    ensures { Found octets.now result }
 {
     match octets[0] {
         0x00..=0x7F => Some(octets[0] as char),

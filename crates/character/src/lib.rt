@@ -1,13 +1,11 @@
 // A text's octets as a row of items: enquiries, idles, other characters in UTF-8, and broken octets.
-ghost use mathlib.Core.Path.{_≡_};
-ghost use lib.Dec.{ltb};
-ghost use lib.ListN.{length, getD};
-ghost use Prim.Native.Nat.{_-_, _<_};
-ghost use mathlib.Core.List.{List};
-ghost use Rattle·refusal.specs.Answer.{after};
-ghost use Rattle·character·specs.Reader.{Next, OnlyItems, item-at, front-item, octets-of, tally-of, holds-enquiry, is-control, without-controls, removal-answer};
-ghost use Rattle·character·specs.Utf8Ranges.{TallyRoom, Within, one-more};
-ghost use Rattle·character·specs.declared.Placed.{Placed as PlacedItem};
+ghost use Rattle.std.specs.Prelude.{◌≡◌, ◌-◌, ◌<◌, List, length, nat_lt, slice_index};
+ghost use Rattle.refusal.specs.Answer.{after};
+ghost use Rattle.character.specs.Reader.{Next, OnlyItems, item_at, front_item, octets_of, tally_of, holds_enquiry, is_control, without_controls, removal_answer};
+ghost use Rattle.character.specs.Utf8Ranges.{TallyRoom, Within, one_more};
+ghost use Rattle.character.specs.declared.Placed.{Placed as PlacedItem};
+ghost use Rattle.std.specs.Iterator.{at_most};
+
 use refusal::Refusal;
 
 mod decoder;
@@ -31,7 +29,7 @@ pub enum Item {
 impl Item {
     // How many octets the item takes.
     pub fn octets(self) -> usize
-        ensures { λ r. ⌜ r ≡ length (octets-of self) ⌝ }
+        ensures { result ≡ length (octets_of self) }
     {
         match self {
             Item::Enquiry | Item::Idle | Item::Broken(_) => 1,
@@ -57,8 +55,8 @@ pub struct Characters<'a> {
 impl<'a> Characters<'a> {
     // The items of a text.
     pub fn new(text: &'a [u8]) -> Self
-        ensures text { λ r. ⌜ now (r .text) ≡ now (text .entry) ⌝ }
-        ensures place { λ r. ⌜ r .place ≡ 0 ⌝ }
+        ensures text { result.text.now ≡ text.now }
+        ensures place { result.place ≡ 0 }
     {
         Characters { text, place: 0 }
     }
@@ -66,8 +64,8 @@ impl<'a> Characters<'a> {
 
 // The item at the front.
 fn front(octets: &[u8]) -> Item
-    requires { ⌜ 0 < length (now octets) ⌝ }
-    ensures { λ r. ⌜ r ≡ front-item (getD (now (octets .entry)) 0 0) (now (octets .entry)) ⌝ }
+    requires { 0 < length octets.now }
+    ensures { result ≡ front_item (slice_index octets.now 0) octets.now }
 {
     match octets[0] {
         ENQUIRY => Item::Enquiry,
@@ -81,8 +79,8 @@ fn front(octets: &[u8]) -> Item
 
 // The item at a place.
 fn read_at(text: &[u8], place: usize) -> Option<Placed>
-    ensures value { λ r. ⌜ r ≡ item-at (now (text .entry)) place ⌝ }
-    ensures within { λ r. ⌜ Within (length (now (text .entry))) place r ⌝ }
+    ensures value { result ≡ item_at text.now place }
+    ensures within { Within (length text.now) place result }
 {
     if place >= text.len() {
         return None;
@@ -91,14 +89,12 @@ fn read_at(text: &[u8], place: usize) -> Option<Placed>
     Some(Placed { place, item })
 }
 
-pub impl<'a> Iterator for Characters<'a> as CharactersIterator {
+impl<'a> Iterator for Characters<'a> {
     type Item = Placed;
 
-    ghost steps = { Next };
+    ghost next_gives = { Next };
 
-    ghost ends = { λ _. Unit {0} };
-
-    ghost left = { λ s. length (s .text .now) - s .place };
+    ghost remaining = { λ s. at_most (length s.text.now - s.place) };
 
     fn next(&mut self) -> Option<Placed> {
         let placed = read_at(self.text, self.place)?;
@@ -119,8 +115,8 @@ pub struct Tally {
 impl Tally {
     // One item more.
     fn with(self, item: Item) -> Tally
-        requires { ⌜ TallyRoom self ⌝ }
-        ensures { λ r. ⌜ r ≡ one-more self item ⌝ }
+        requires { TallyRoom self }
+        ensures { result ≡ one_more self item }
     {
         match item {
             Item::Enquiry => Tally {
@@ -144,8 +140,8 @@ impl Tally {
 
     // Reads a whole text and counts its items.
     pub fn of(text: &[u8]) -> Tally
-        ensures items { λ r. ⌜ ((items : List PlacedItem) × OnlyItems (now (text .entry)) items × (r ≡ tally-of items)) ⌝ }
-        ensures enquiry { λ r. ⌜ holds-enquiry (now (text .entry)) ≡ ltb 0 (r .enquiries) ⌝ }
+        ensures items { (items : List PlacedItem) × OnlyItems text.now items × (result ≡ tally_of items) }
+        ensures enquiry { holds_enquiry text.now ≡ nat_lt 0 result.enquiries }
     {
         let mut tally = Tally {
             enquiries: 0,
@@ -162,21 +158,21 @@ impl Tally {
 
 // Whether one of a text's items is an enquiry.
 pub fn holds_enquiry(text: &[u8]) -> bool
-    ensures { λ r. ⌜ r ≡ holds-enquiry (now (text .entry)) ⌝ }
+    ensures { result ≡ holds_enquiry text.now }
 {
     Tally::of(text).enquiries > 0
 }
 
 // Whether an octet is a control character.
 fn is_control(octet: u8) -> bool
-    ensures { λ r. ⌜ r ≡ is-control octet ⌝ }
+    ensures { result ≡ is_control octet }
 {
     octet == ENQUIRY || octet == IDLE
 }
 
 // How many octets a text has besides its control characters.
 fn plain_length(text: &[u8]) -> usize
-    ensures { λ r. ⌜ r ≡ length (without-controls (now (text .entry))) ⌝ }
+    ensures { result ≡ length (without_controls text.now) }
 {
     let mut length = 0;
     for octet in text {
@@ -189,8 +185,8 @@ fn plain_length(text: &[u8]) -> usize
 
 // Copies a text without its enquiries and idles into the first places of memory, and answers how many octets stay.
 pub fn remove_controls(text: &[u8], memory: &mut [u8]) -> Result<usize, Refusal>
-    ensures answer { λ r. ⌜ r ≡ removal-answer (now (text .entry)) (length (now (memory .entry))) ⌝ }
-    ensures memory { λ r. ⌜ now (memory .exit) ≡ after r (without-controls (now (text .entry))) (now (memory .entry)) ⌝ }
+    ensures answer { result ≡ removal_answer text.now (length memory.old) }
+    ensures memory { memory.new ≡ after result (without_controls text.now) memory.old }
 {
     if plain_length(text) > memory.len() {
         return Err(Refusal::MemoryTooShort);

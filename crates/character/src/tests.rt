@@ -1,19 +1,7 @@
 // The item at the front, at every boundary that UTF-8 has, and one mixed text.
 // The table's right column was worked out by another decoder.
-use crate::Characters;
-use crate::CharactersIterator;
-use crate::Item;
-use crate::Placed;
-use crate::PlacedDebug;
-use crate::PlacedPartialEq;
-use crate::Tally;
-use crate::TallyDebug;
-use crate::TallyPartialEq;
-use crate::remove_controls;
+use crate::{Characters, Item, Placed, Tally, remove_controls};
 use refusal::Refusal;
-use refusal::RefusalDebug;
-use refusal::RefusalPartialEq;
-use std::test::*;
 
 const FRONTS: [(&[u8], Item); 62] = [
     (&[0x00], Item::Character('\u{0}')),
@@ -81,22 +69,21 @@ const FRONTS: [(&[u8], Item); 62] = [
 ];
 
 #[test]
-fn fronts() -> Result<(), Fail> {
+fn fronts(rt: HostRuntime) {
     for (octets, item) in FRONTS.iter() {
         let mut items = Characters::new(octets);
-        check_eq(
+        assert_eq!(rt;
             items.next(),
             Some(Placed {
                 place: 0,
                 item: *item,
-            }),
-        )?;
+            })
+        );
     }
-    Ok(())
 }
 
 #[test]
-fn mixed() -> Result<(), Fail> {
+fn mixed(rt: HostRuntime) {
     let text = b"A\x05\xC3\xA9\x16\xE2\x82";
     let expected = [
         Placed {
@@ -126,31 +113,31 @@ fn mixed() -> Result<(), Fail> {
     ];
     let mut items = Characters::new(text);
     for placed in expected {
-        check_eq(items.next(), Some(placed))?;
+        assert_eq!(rt; items.next(), Some(placed));
     }
-    check_eq(items.next(), None)?;
-    check_eq(
+    assert_eq!(rt; items.next(), None);
+    assert_eq!(rt;
         Tally::of(text),
         Tally {
             enquiries: 1,
             idles: 1,
             characters: 2,
             broken: 2,
-        },
-    )
+        }
+    );
 }
 
 #[test]
-fn controls_removed() -> Result<(), Fail> {
+fn controls_removed(rt: HostRuntime) {
     let text = b"\x05A\x05\xC3\xA9\x16\xE2\x82\x16\x16";
     let mut memory = [1; 7];
-    check_eq(remove_controls(text, &mut memory), Ok(5))?;
-    check_eq(memory, [b'A', 0xC3, 0xA9, 0xE2, 0x82, 1, 1])?;
+    assert_eq!(rt; remove_controls(text, &mut memory), Ok(5));
+    assert_eq!(rt; memory, [b'A', 0xC3, 0xA9, 0xE2, 0x82, 1, 1]);
     let mut short = [1; 4];
-    check_eq(
+    assert_eq!(rt;
         remove_controls(text, &mut short),
-        Err(Refusal::MemoryTooShort),
-    )?;
-    check_eq(short, [1; 4])?;
-    check_eq(remove_controls(b"\x05\x16", &mut short[0..0]), Ok(0))
+        Err(Refusal::MemoryTooShort)
+    );
+    assert_eq!(rt; short, [1; 4]);
+    assert_eq!(rt; remove_controls(b"\x05\x16", &mut short[0..0]), Ok(0));
 }

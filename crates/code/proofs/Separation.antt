@@ -2,37 +2,31 @@
 -- The code is linear: the places where two coded streams differ are the ones of the coded difference. For each state of
 -- the coder there is a least weight still to come before it is back in the zero state; one computed test over the 32
 -- branches shows that no branch takes more off it than the branch weighs, and the first 1 weighs 4 and leaves 12.
-use mathlib.Core.Bool.{Bool, true, false, xor, _&&_}
-use mathlib.Core.Logic.{_⊎_, inl, inr, ⊎-elim}
-use mathlib.Core.List.{List, [], _∷_, map}
-use mathlib.Core.Path.{_≡_, refl, sym, ap, subst, _∙_}
-use Prim.Native.Nat.{ℕ, zero, suc, _+_, _*_, _<_, _≤_}
-use native.Mathlib.Omega.{arith}
-use lib.Dec.{T, leb, leb→le, lit≤}
-use lib.ListN.{length, getD}
-use Rattle·std.proofs.shelf.Tests.{cases-lt, lt-ltb}
-use Rattle·code·specs.Coder.{bit, coded, coded-count, sums, parity}
-use Rattle·refusal.specs.Counting.{total, count}
-use Rattle·refusal.proofs.Totals.{total-ext, total-four}
-use Rattle·code·specs.Nearest.{Octets}
-use Rattle·code·specs.Separation.{Separated}
-use Rattle·code·specs.States.{bit-number, nibble, four-on, path, state, window, sent}
-use Rattle·code·proofs.States.{Agree, state-agree, coded-sent, octet-states, path-beyond}
-use Rattle·code·proofs.Order.{same-texts}
+use Rattle.std.proofs.Common.{◌≡◌, ℕ, zero, suc, ◌+◌, ◌*◌, ◌<◌, ◌≤◌, Bool, true, false, ◌&&◌, T, leb, ◌⊎◌, List, [], ◌∷◌, map, length, get_or, sym, refl, ap, ◌∙◌, subst, inl, inr, ⊎_elim, arith, lit≤, leb→le}
+use mathlib.Core.Bool.{xor}
+use Rattle.std.proofs.lemmas.Bool.{cases_lt, lt-ltb}
+use Rattle.code.specs.Coder.{bit, coded, coded_count, sums, parity}
+use Rattle.refusal.specs.Counting.{total, count}
+use Rattle.refusal.proofs.Totals.{total_ext, total_four}
+use Rattle.code.specs.Nearest.{Octets}
+use Rattle.code.specs.Separation.{Separated}
+use Rattle.code.specs.States.{bit_number, nibble, four_on, path, state, window, sent}
+use Rattle.code.proofs.States.{Agree, state_agree, coded_sent, octet_states, path_beyond}
+use Rattle.code.proofs.Order.{same_texts}
 
 -- how many of the four coded bits of a step are ones
 abbrev weight : List Bool → ℕ
-weight bits = (bit-number (sent bits 0) + bit-number (sent bits 1)) + (bit-number (sent bits 2) + bit-number (sent bits 3))
+weight bits = (bit_number (sent bits 0) + bit_number (sent bits 1)) + (bit_number (sent bits 2) + bit_number (sent bits 3))
 
 -- the least weight from a state to the zero state
-abbrev to-go : ℕ → ℕ
-to-go s = getD (0 ∷ 4 ∷ 7 ∷ 5 ∷ 10 ∷ 8 ∷ 7 ∷ 7 ∷ 12 ∷ 12 ∷ 9 ∷ 9 ∷ 10 ∷ 8 ∷ 9 ∷ 9 ∷ []) s 0
+abbrev to_go : ℕ → ℕ
+to_go s = get_or (0 ∷ 4 ∷ 7 ∷ 5 ∷ 10 ∷ 8 ∷ 7 ∷ 7 ∷ 12 ∷ 12 ∷ 9 ∷ 9 ∷ 10 ∷ 8 ∷ 9 ∷ 9 ∷ []) s 0
 
 abbrev both : (Bool → Bool) → Bool
 both test = test false && test true
 
-both-at : (test : Bool → Bool) → T (both test) → (b : Bool) → T (test b)
-both-at test h b = go (test false) (test true) refl refl h b
+both_at : (test : Bool → Bool) → T (both test) → (b : Bool) → T (test b)
+both_at test h b = go (test false) (test true) refl refl h b
   where
     go : (x y : Bool) → test false ≡ x → test true ≡ y → T (x && y) → (b : Bool) → T (test b)
     go true y p q t true = subst T (sym q) t
@@ -40,35 +34,35 @@ both-at test h b = go (test false) (test true) refl refl h b
     go false y p q t b = absurd t
 
 -- the certificate: a branch from four bits a to d, the oldest first, with the new bit e
-abbrev branch-holds : Bool → Bool → Bool → Bool → Bool → Bool
-branch-holds a b c d e = leb (to-go (nibble a b c d)) (weight (e ∷ d ∷ c ∷ b ∷ a ∷ []) + to-go (nibble b c d e))
+abbrev branch_holds : Bool → Bool → Bool → Bool → Bool → Bool
+branch_holds a b c d e = leb (to_go (nibble a b c d)) (weight (e ∷ d ∷ c ∷ b ∷ a ∷ []) + to_go (nibble b c d e))
 
-abbrev all-branches-hold : Bool
-all-branches-hold = both (λ a. both (λ b. both (λ c. both (λ d. both (λ e. branch-holds a b c d e)))))
+abbrev all_branches_hold : Bool
+all_branches_hold = both (λ a. both (λ b. both (λ c. both (λ d. both (λ e. branch_holds a b c d e)))))
 
-computed : T all-branches-hold
+computed : T all_branches_hold
 unfolding xor
 computed = tt
 
-certified : (a b c d e : Bool) → to-go (nibble a b c d) ≤ weight (e ∷ d ∷ c ∷ b ∷ a ∷ []) + to-go (nibble b c d e)
+certified : (a b c d e : Bool) → to_go (nibble a b c d) ≤ weight (e ∷ d ∷ c ∷ b ∷ a ∷ []) + to_go (nibble b c d e)
 certified a b c d e =
     leb→le _ _
-    (both-at (λ e. branch-holds a b c d e)
-    (both-at (λ d. both (λ e. branch-holds a b c d e))
-    (both-at (λ c. both (λ d. both (λ e. branch-holds a b c d e)))
-    (both-at (λ b. both (λ c. both (λ d. both (λ e. branch-holds a b c d e))))
-    (both-at (λ a. both (λ b. both (λ c. both (λ d. both (λ e. branch-holds a b c d e))))) computed a) b) c) d) e)
+    (both_at (λ e. branch_holds a b c d e)
+    (both_at (λ d. both (λ e. branch_holds a b c d e))
+    (both_at (λ c. both (λ d. both (λ e. branch_holds a b c d e)))
+    (both_at (λ b. both (λ c. both (λ d. both (λ e. branch_holds a b c d e))))
+    (both_at (λ a. both (λ b. both (λ c. both (λ d. both (λ e. branch_holds a b c d e))))) computed a) b) c) d) e)
 
-first-one : (a b c d e : Bool) → a ≡ false → b ≡ false → c ≡ false → d ≡ false → e ≡ true
-    → 16 ≤ weight (e ∷ d ∷ c ∷ b ∷ a ∷ []) + to-go (nibble b c d e)
+first_one : (a b c d e : Bool) → a ≡ false → b ≡ false → c ≡ false → d ≡ false → e ≡ true
+    → 16 ≤ weight (e ∷ d ∷ c ∷ b ∷ a ∷ []) + to_go (nibble b c d e)
 unfolding xor
-first-one a b c d e p q r s t = rw (p, q, r, s, t) (lit≤ tt)
+first_one a b c d e p q r s t = rw (p, q, r, s, t) (lit≤ tt)
 
 -- the code is linear
-parity-xor : (f g : ℕ → Bool) (ds : List ℕ) → xor (parity (map f ds)) (parity (map g ds)) ≡ parity (map (λ d. xor (f d) (g d)) ds)
+parity_xor : (f g : ℕ → Bool) (ds : List ℕ) → xor (parity (map f ds)) (parity (map g ds)) ≡ parity (map (λ d. xor (f d) (g d)) ds)
 unfolding xor
-parity-xor f g [] = refl
-parity-xor f g (d ∷ ds) = swap (f d) (parity (map f ds)) (g d) (parity (map g ds)) ∙ ap (xor (xor (f d) (g d))) (parity-xor f g ds)
+parity_xor f g [] = refl
+parity_xor f g (d ∷ ds) = swap (f d) (parity (map f ds)) (g d) (parity (map g ds)) ∙ ap (xor (xor (f d) (g d))) (parity_xor f g ds)
   where
     swap : (a b c d : Bool) → xor (xor a b) (xor c d) ≡ xor (xor a c) (xor b d)
     swap true true true true = refl
@@ -93,33 +87,33 @@ module _ (a b : ℕ → Bool) where
   abbrev apart : ℕ → Bool
   apart i = xor (path a i) (path b i)
 
-  sent-apart : (j r : ℕ) → r < 4 → xor (sent (window j (path a)) r) (sent (window j (path b)) r) ≡ sent (window j apart) r
-  sent-apart j zero h = parity-xor (λ d. getD (window j (path a)) d false) (λ d. getD (window j (path b)) d false) (getD sums 0 [])
-  sent-apart j (suc zero) h = parity-xor (λ d. getD (window j (path a)) d false) (λ d. getD (window j (path b)) d false) (getD sums 1 [])
-  sent-apart j (suc (suc zero)) h = parity-xor (λ d. getD (window j (path a)) d false) (λ d. getD (window j (path b)) d false) (getD sums 2 [])
-  sent-apart j (suc (suc (suc zero))) h = parity-xor (λ d. getD (window j (path a)) d false) (λ d. getD (window j (path b)) d false) (getD sums 3 [])
-  sent-apart j (suc (suc (suc (suc r)))) h = absurd (omega arith)
+  sent_apart : (j r : ℕ) → r < 4 → xor (sent (window j (path a)) r) (sent (window j (path b)) r) ≡ sent (window j apart) r
+  sent_apart j zero h = parity_xor (λ d. get_or (window j (path a)) d false) (λ d. get_or (window j (path b)) d false) (get_or sums 0 [])
+  sent_apart j (suc zero) h = parity_xor (λ d. get_or (window j (path a)) d false) (λ d. get_or (window j (path b)) d false) (get_or sums 1 [])
+  sent_apart j (suc (suc zero)) h = parity_xor (λ d. get_or (window j (path a)) d false) (λ d. get_or (window j (path b)) d false) (get_or sums 2 [])
+  sent_apart j (suc (suc (suc zero))) h = parity_xor (λ d. get_or (window j (path a)) d false) (λ d. get_or (window j (path b)) d false) (get_or sums 3 [])
+  sent_apart j (suc (suc (suc (suc r)))) h = absurd (omega arith)
 
   -- the places where the coded bits of n steps differ
-  differing-total : (n : ℕ) → count (4 * n) (λ i. xor (coded a i) (coded b i)) ≡ total n (λ j. weight (window j apart))
-  differing-total n = total-four n (λ i. bit-number (xor (coded a i) (coded b i))) ∙ total-ext n _ _ (λ j l. at j)
+  differing_total : (n : ℕ) → count (4 * n) (λ i. xor (coded a i) (coded b i)) ≡ total n (λ j. weight (window j apart))
+  differing_total n = total_four n (λ i. bit_number (xor (coded a i) (coded b i))) ∙ total_ext n _ _ (λ j l. at j)
     where
-      joined : (x y x′ y′ z : Bool) → x ≡ x′ → y ≡ y′ → xor x′ y′ ≡ z → bit-number (xor x y) ≡ bit-number z
-      joined x y x′ y′ z p q r = cc
+      joined : (x y x' y' z : Bool) → x ≡ x' → y ≡ y' → xor x' y' ≡ z → bit_number (xor x y) ≡ bit_number z
+      joined x y x' y' z p q r = cc
 
-      at : (j : ℕ) → (bit-number (xor (coded a (4 * j)) (coded b (4 * j))) + bit-number (xor (coded a (4 * j + 1)) (coded b (4 * j + 1)))) + (bit-number (xor (coded a (4 * j + 2)) (coded b (4 * j + 2))) + bit-number (xor (coded a (4 * j + 3)) (coded b (4 * j + 3)))) ≡ weight (window j apart)
+      at : (j : ℕ) → (bit_number (xor (coded a (4 * j)) (coded b (4 * j))) + bit_number (xor (coded a (4 * j + 1)) (coded b (4 * j + 1)))) + (bit_number (xor (coded a (4 * j + 2)) (coded b (4 * j + 2))) + bit_number (xor (coded a (4 * j + 3)) (coded b (4 * j + 3)))) ≡ weight (window j apart)
       at j =
-          let p = coded-sent a j in
-          let q = coded-sent b j in
-          let e0 = joined _ _ _ _ _ (p .0) (q .0) (sent-apart j 0 (omega arith)) in
-          let e1 = joined _ _ _ _ _ (p .1) (q .1) (sent-apart j 1 (omega arith)) in
-          let e2 = joined _ _ _ _ _ (p .2) (q .2) (sent-apart j 2 (omega arith)) in
-          let e3 = joined _ _ _ _ _ (p .3) (q .3) (sent-apart j 3 (omega arith)) in
+          let p = coded_sent a j in
+          let q = coded_sent b j in
+          let e0 = joined _ _ _ _ _ p.0 q.0 (sent_apart j 0 (omega arith)) in
+          let e1 = joined _ _ _ _ _ p.1 q.1 (sent_apart j 1 (omega arith)) in
+          let e2 = joined _ _ _ _ _ p.2 q.2 (sent_apart j 2 (omega arith)) in
+          let e3 = joined _ _ _ _ _ p.3 q.3 (sent_apart j 3 (omega arith)) in
           cc
 
   -- after n steps the two paths are the same so far, or their coded bits differ and will differ in 16 places
   Split : ℕ → Type 0
-  Split n = ((i : ℕ) → i < four-on n → apart i ≡ false) ⊎ (16 ≤ total n (λ j. weight (window j apart)) + to-go (state n apart))
+  Split n = ((i : ℕ) → i < four_on n → apart i ≡ false) ⊎ (16 ≤ total n (λ j. weight (window j apart)) + to_go (state n apart))
 
   split : (n : ℕ) → Split n
   unfolding Split xor
@@ -127,67 +121,67 @@ module _ (a b : ℕ → Bool) where
     where
       none : (i : ℕ) → i < 4 → apart i ≡ false
       none i l = rw (lt-ltb i 4 l) refl
-  split (suc n) = ⊎-elim start goes-on (split n)
+  split (suc n) = ⊎_elim start goes_on (split n)
     where
-      goes-on : 16 ≤ total n (λ j. weight (window j apart)) + to-go (state n apart) → Split (suc n)
-      goes-on h =
-          let c = certified (apart n) (apart (suc n)) (apart (suc (suc n))) (apart (suc (suc (suc n)))) (apart (four-on n)) in
+      goes_on : 16 ≤ total n (λ j. weight (window j apart)) + to_go (state n apart) → Split (suc n)
+      goes_on h =
+          let c = certified (apart n) (apart (suc n)) (apart (suc (suc n))) (apart (suc (suc (suc n)))) (apart (four_on n)) in
           inr (omega arith)
 
-      start : ((i : ℕ) → i < four-on n → apart i ≡ false) → Split (suc n)
-      start h = go (apart (four-on n)) refl
+      start : ((i : ℕ) → i < four_on n → apart i ≡ false) → Split (suc n)
+      start h = go (apart (four_on n)) refl
         where
-          go : (b : Bool) → apart (four-on n) ≡ b → Split (suc n)
-          go false e = inl (λ i l. ⊎-elim (h i) (λ g. let q : four-on n ≡ i = omega arith in subst (λ j. apart j ≡ false) q e) (cases-lt i (four-on n)))
+          go : (b : Bool) → apart (four_on n) ≡ b → Split (suc n)
+          go false e = inl (λ i l. ⊎_elim (h i) (λ g. let q : four_on n ≡ i = omega arith in subst (λ j. apart j ≡ false) q e) (cases_lt i (four_on n)))
           go true e =
-              let f = first-one (apart n) (apart (suc n)) (apart (suc (suc n))) (apart (suc (suc (suc n)))) (apart (four-on n))
+              let f = first_one (apart n) (apart (suc n)) (apart (suc (suc n))) (apart (suc (suc (suc n)))) (apart (four_on n))
               (h n (omega arith)) (h (suc n) (omega arith)) (h (suc (suc n)) (omega arith)) (h (suc (suc (suc n))) (omega arith)) e in
               inr (omega arith)
 
-xor-false : (x y : Bool) → xor x y ≡ false → x ≡ y
+xor_false : (x y : Bool) → xor x y ≡ false → x ≡ y
 unfolding xor
-xor-false true true e = refl
-xor-false true false e = e
-xor-false false true e = sym e
-xor-false false false e = refl
+xor_false true true e = refl
+xor_false true false e = e
+xor_false false true e = sym e
+xor_false false false e = refl
 
-both-false : (x y : Bool) → x ≡ false → y ≡ false → xor x y ≡ false
+both_false : (x y : Bool) → x ≡ false → y ≡ false → xor x y ≡ false
 unfolding xor
-both-false x y p q = rw (p, q) refl
+both_false x y p q = rw (p, q) refl
 
 -- two texts whose paths agree are the same
-same-paths : (m : ℕ) (a b : List ℕ) → Octets m a → Octets m b → Agree (four-on (four-on (8 * m))) (path (bit a)) (path (bit b)) → a ≡ b
-same-paths m a b oa ob h =
-    same-texts m a b oa ob
+same_paths : (m : ℕ) (a b : List ℕ) → Octets m a → Octets m b → Agree (four_on (four_on (8 * m))) (path (bit a)) (path (bit b)) → a ≡ b
+same_paths m a b oa ob h =
+    same_texts m a b oa ob
     (λ j l.
-    let p = octet-states a j (oa .1 j) in
-    let q = octet-states b j (ob .1 j) in
-    let e = state-agree (four-on (8 * j)) (path (bit a)) (path (bit b)) (λ i g. h i (omega arith)) in
-    let f = state-agree (four-on (four-on (8 * j))) (path (bit a)) (path (bit b)) (λ i g. h i (omega arith)) in
+    let p = octet_states a j (oa.1 j) in
+    let q = octet_states b j (ob.1 j) in
+    let e = state_agree (four_on (8 * j)) (path (bit a)) (path (bit b)) (λ i g. h i (omega arith)) in
+    let f = state_agree (four_on (four_on (8 * j))) (path (bit a)) (path (bit b)) (λ i g. h i (omega arith)) in
     omega arith)
 
 -- the difference of two texts of m octets ends in the zero state
-ends-zero : (m : ℕ) (a b : List ℕ) → length a ≡ m → length b ≡ m → state (four-on (8 * m)) (apart (bit a) (bit b)) ≡ 0
-ends-zero m a b p q =
+ends_zero : (m : ℕ) (a b : List ℕ) → length a ≡ m → length b ≡ m → state (four_on (8 * m)) (apart (bit a) (bit b)) ≡ 0
+ends_zero m a b p q =
     let z0 = at (8 * m) (omega arith) in
     let z1 = at (suc (8 * m)) (omega arith) in
     let z2 = at (suc (suc (8 * m))) (omega arith) in
     let z3 = at (suc (suc (suc (8 * m)))) (omega arith) in
     rw (z0, z1, z2, z3) refl
   where
-    at : (n : ℕ) → 8 * m ≤ n → apart (bit a) (bit b) (four-on n) ≡ false
-    at n h = both-false (path (bit a) (four-on n)) (path (bit b) (four-on n)) (path-beyond a m n p h) (path-beyond b m n q h)
+    at : (n : ℕ) → 8 * m ≤ n → apart (bit a) (bit b) (four_on n) ≡ false
+    at n h = both_false (path (bit a) (four_on n)) (path (bit b) (four_on n)) (path_beyond a m n p h) (path_beyond b m n q h)
 
 pub separated : Separated 16
 unfolding Split
 separated m a b oa ob ne =
-    ⊎-elim
-    (λ z. absurd (ne (same-paths m a b oa ob (λ i l. xor-false (path (bit a) i) (path (bit b) i) (z i l)))))
+    ⊎_elim
+    (λ z. absurd (ne (same_paths m a b oa ob (λ i l. xor_false (path (bit a) i) (path (bit b) i) (z i l)))))
     (λ h.
-    let n : coded-count m ≡ 4 * four-on (8 * m) = omega arith in
-    let e = differing-total (bit a) (bit b) (four-on (8 * m)) in
-    let c : count (coded-count m) (λ i. xor (coded (bit a) i) (coded (bit b) i)) ≡ count (4 * four-on (8 * m)) (λ i. xor (coded (bit a) i) (coded (bit b) i)) =
+    let n : coded_count m ≡ 4 * four_on (8 * m) = omega arith in
+    let e = differing_total (bit a) (bit b) (four_on (8 * m)) in
+    let c : count (coded_count m) (λ i. xor (coded (bit a) i) (coded (bit b) i)) ≡ count (4 * four_on (8 * m)) (λ i. xor (coded (bit a) i) (coded (bit b) i)) =
     ap (λ k. count k (λ i. xor (coded (bit a) i) (coded (bit b) i))) n in
-    let z : to-go (state (four-on (8 * m)) (apart (bit a) (bit b))) ≡ 0 = ap to-go (ends-zero m a b (oa .0) (ob .0)) in
+    let z : to_go (state (four_on (8 * m)) (apart (bit a) (bit b))) ≡ 0 = ap to_go (ends_zero m a b oa.0 ob.0) in
     omega arith)
-    (split (bit a) (bit b) (four-on (8 * m)))
+    (split (bit a) (bit b) (four_on (8 * m)))

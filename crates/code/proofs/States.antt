@@ -1,85 +1,81 @@
 -- The coder's states along a path, the coded bits of a step, and the two states that hold an octet of a text.
-use mathlib.Core.Bool.{Bool, false}
-use mathlib.Core.List.{List, [], _∷_, map}
-use mathlib.Core.Path.{_≡_, refl, sym, ap, _∙_}
-use Prim.Native.Nat.{ℕ, suc, _+_, _*_, _/_, _%_, _^_, _<_, _≤_}
+use Rattle.std.proofs.Common.{◌≡◌, ℕ, suc, ◌+◌, ◌*◌, ◌/◌, ◌%◌, ◌^◌, ◌<◌, ◌≤◌, Bool, false, eqb, List, [], ◌∷◌, map, length, get_or, sym, refl, ap, ◌∙◌, arith}
 use native.Mathlib.Nat.{suc-sub-suc, sub-zero, zero-div}
-use native.Mathlib.Omega.{arith}
-use lib.Dec.{eqb, leb·suc-suc, leb·suc-zero}
-use lib.ListN.{length, getD, List·getD-eq-default}
-use Rattle·code·specs.Coder.{bit, before, coded, sums, parity}
-use Rattle·code·specs.States.{bit-number, four-on, path, state, window, sent}
-use Rattle·code·proofs.Nibbles.{odd-number}
+use lib.Dec.{leb-suc-suc, leb-suc-zero}
+use lib.ListN.{get_or-eq_default}
+use Rattle.code.specs.Coder.{bit, before, coded, sums, parity}
+use Rattle.code.specs.States.{bit_number, four_on, path, state, window, sent}
+use Rattle.code.proofs.Nibbles.{odd_number}
 
 -- two paths agree below place n
 abbrev pub Agree : ℕ → (ℕ → Bool) → (ℕ → Bool) → Type 0
 Agree n c y = (i : ℕ) → i < n → c i ≡ y i
 
-pub state-agree : (k : ℕ) (c y : ℕ → Bool) → Agree (four-on k) c y → state k c ≡ state k y
-state-agree k c y h =
+pub state_agree : (k : ℕ) (c y : ℕ → Bool) → Agree (four_on k) c y → state k c ≡ state k y
+state_agree k c y h =
     let p = h k (omega arith) in
     let q = h (suc k) (omega arith) in
     let r = h (suc (suc k)) (omega arith) in
     let s = h (suc (suc (suc k))) (omega arith) in
     cc
 
-before-suc : (b : ℕ → Bool) (i d : ℕ) → before b (suc i) (suc d) ≡ before b i d
-before-suc b i d = rw (leb·suc-suc (suc i) d, suc-sub-suc i d)
+before_suc : (b : ℕ → Bool) (i d : ℕ) → before b (suc i) (suc d) ≡ before b i d
+before_suc b i d = rw (leb-suc-suc (suc i) d, suc-sub-suc i d)
 
-before-zero : (b : ℕ → Bool) (i : ℕ) → before b i 0 ≡ b i
-before-zero b i = rw (leb·suc-zero i, sub-zero i)
+before_zero : (b : ℕ → Bool) (i : ℕ) → before b i 0 ≡ b i
+before_zero b i = rw (leb-suc-zero i, sub-zero i)
 
 -- the bit at place n of a stream stands at place n + 4 of its path
-pub path-four : (b : ℕ → Bool) (n : ℕ) → path b (four-on n) ≡ b n
-path-four b n =
-    before-suc b (suc (suc (suc n))) 3 ∙ (before-suc b (suc (suc n)) 2 ∙ (before-suc b (suc n) 1 ∙ (before-suc b n 0 ∙ before-zero b n)))
+pub path_four : (b : ℕ → Bool) (n : ℕ) → path b (four_on n) ≡ b n
+path_four b n =
+    before_suc b (suc (suc (suc n))) 3 ∙ (before_suc b (suc (suc n)) 2 ∙ (before_suc b (suc n) 1 ∙ (before_suc b n 0 ∙ before_zero b n)))
 
 -- the five bits of a step, as they lie back from it
-window-back : (b : ℕ → Bool) (j : ℕ)
+window_back : (b : ℕ → Bool) (j : ℕ)
     → window j (path b) ≡ before b j 0 ∷ before b j 1 ∷ before b j 2 ∷ before b j 3 ∷ before b j 4 ∷ []
-window-back b j =
-    let w0 : path b (four-on j) ≡ before b j 0 =
-    before-suc b (suc (suc (suc j))) 3 ∙ (before-suc b (suc (suc j)) 2 ∙ (before-suc b (suc j) 1 ∙ before-suc b j 0)) in
+window_back b j =
+    let w0 : path b (four_on j) ≡ before b j 0 =
+    before_suc b (suc (suc (suc j))) 3 ∙ (before_suc b (suc (suc j)) 2 ∙ (before_suc b (suc j) 1 ∙ before_suc b j 0)) in
     let w1 : path b (suc (suc (suc j))) ≡ before b j 1 =
-    before-suc b (suc (suc j)) 3 ∙ (before-suc b (suc j) 2 ∙ before-suc b j 1) in
-    let w2 : path b (suc (suc j)) ≡ before b j 2 = before-suc b (suc j) 3 ∙ before-suc b j 2 in
-    let w3 : path b (suc j) ≡ before b j 3 = before-suc b j 3 in
+    before_suc b (suc (suc j)) 3 ∙ (before_suc b (suc j) 2 ∙ before_suc b j 1) in
+    let w2 : path b (suc (suc j)) ≡ before b j 2 = before_suc b (suc j) 3 ∙ before_suc b j 2 in
+    let w3 : path b (suc j) ≡ before b j 3 = before_suc b j 3 in
     cc
 
 -- the four coded bits of a step
-coded-at : (b : ℕ → Bool) (i j r : ℕ) → i / 4 ≡ j → i % 4 ≡ r → coded b i ≡ parity (map (before b j) (getD sums r []))
-coded-at b i j r p q = cc
+coded_at : (b : ℕ → Bool) (i j r : ℕ) → i / 4 ≡ j → i % 4 ≡ r → coded b i ≡ parity (map (before b j) (get_or sums r []))
+coded_at b i j r p q = cc
 
-pub coded-sent : (b : ℕ → Bool) (j : ℕ)
+pub coded_sent : (b : ℕ → Bool) (j : ℕ)
     → (coded b (4 * j) ≡ sent (window j (path b)) 0) × (coded b (4 * j + 1) ≡ sent (window j (path b)) 1)
     × (coded b (4 * j + 2) ≡ sent (window j (path b)) 2) × (coded b (4 * j + 3) ≡ sent (window j (path b)) 3)
-coded-sent b j =
-    let w = window-back b j in (
-      coded-at b (4 * j) j 0 (omega arith) (omega arith) ∙ sym (ap (λ v. sent v 0) w),
-      coded-at b (4 * j + 1) j 1 (omega arith) (omega arith) ∙ sym (ap (λ v. sent v 1) w),
-      coded-at b (4 * j + 2) j 2 (omega arith) (omega arith) ∙ sym (ap (λ v. sent v 2) w),
-      coded-at b (4 * j + 3) j 3 (omega arith) (omega arith) ∙ sym (ap (λ v. sent v 3) w),
+coded_sent b j =
+    let w = window_back b j in (
+      coded_at b (4 * j) j 0 (omega arith) (omega arith) ∙ sym (ap (λ v. sent v 0) w),
+      coded_at b (4 * j + 1) j 1 (omega arith) (omega arith) ∙ sym (ap (λ v. sent v 1) w),
+      coded_at b (4 * j + 2) j 2 (omega arith) (omega arith) ∙ sym (ap (λ v. sent v 2) w),
+      coded_at b (4 * j + 3) j 3 (omega arith) (omega arith) ∙ sym (ap (λ v. sent v 3) w),
     )
 
 -- the two states that hold the octet at i of a text
-bit-at : (text : List ℕ) (n i t : ℕ) → n / 8 ≡ i → n % 8 ≡ t → bit-number (bit text n) ≡ getD text i 0 / 2 ^ t % 2
-bit-at text n i t p q = odd-number (getD text (n / 8) 0 / 2 ^ (n % 8)) ∙ cc
+bit_at : (text : List ℕ) (n i t : ℕ) → n / 8 ≡ i → n % 8 ≡ t → bit_number (bit text n) ≡ get_or text i 0 / 2 ^ t % 2
+bit_at text n i t p q = odd_number (get_or text (n / 8) 0 / 2 ^ (n % 8)) ∙ cc
 
-path-bit : (text : List ℕ) (i t n : ℕ) → n ≡ 8 * i + t → t < 8 → bit-number (path (bit text) (four-on n)) ≡ getD text i 0 / 2 ^ t % 2
-path-bit text i t n e h = ap bit-number (path-four (bit text) n) ∙ bit-at text n i t (omega arith) (omega arith)
+path_bit : (text : List ℕ) (i t n : ℕ) → n ≡ 8 * i + t → t < 8 → bit_number (path (bit text) (four_on n)) ≡ get_or text i 0 / 2 ^ t % 2
+path_bit text i t n e h = ap bit_number (path_four (bit text) n) ∙ bit_at text n i t (omega arith) (omega arith)
 
-pub octet-states : (text : List ℕ) (i : ℕ) → getD text i 0 < 256
-    → state (four-on (8 * i)) (path (bit text)) + 16 * state (four-on (four-on (8 * i))) (path (bit text)) ≡ getD text i 0
-octet-states text i h =
-    let b0 = path-bit text i 0 (8 * i) (omega arith) (omega arith) in
-    let b1 = path-bit text i 1 (suc (8 * i)) (omega arith) (omega arith) in
-    let b2 = path-bit text i 2 (suc (suc (8 * i))) (omega arith) (omega arith) in
-    let b3 = path-bit text i 3 (suc (suc (suc (8 * i)))) (omega arith) (omega arith) in
-    let b4 = path-bit text i 4 (four-on (8 * i)) (omega arith) (omega arith) in
-    let b5 = path-bit text i 5 (suc (four-on (8 * i))) (omega arith) (omega arith) in
-    let b6 = path-bit text i 6 (suc (suc (four-on (8 * i)))) (omega arith) (omega arith) in
-    let b7 = path-bit text i 7 (suc (suc (suc (four-on (8 * i))))) (omega arith) (omega arith) in
-    eight (getD text i 0) h _ _ _ _ _ _ _ _ b0 b1 b2 b3 b4 b5 b6 b7
+pub octet_states : (text : List ℕ) (i : ℕ) → get_or text i 0 < 256
+    → state (four_on (8 * i)) (path (bit text)) + 16 * state (four_on (four_on (8 * i))) (path (bit text)) ≡ get_or text i 0
+octet_states text i h =
+    let b0 = path_bit text i 0 (8 * i) (omega arith) (omega arith) in
+    let b1 = path_bit text i 1 (suc (8 * i)) (omega arith) (omega arith) in
+    let b2 = path_bit text i 2 (suc (suc (8 * i))) (omega arith) (omega arith) in
+    let b3 = path_bit text i 3 (suc (suc (suc (8 * i)))) (omega arith) (omega arith) in
+    let b4 = path_bit text i 4 (four_on (8 * i)) (omega arith) (omega arith) in
+    let b5 = path_bit text i 5 (suc (four_on (8 * i))) (omega arith) (omega arith) in
+    let b6 = path_bit text i 6 (suc (suc (four_on (8 * i)))) (omega arith) (omega arith) in
+    let b7 = path_bit text i 7 (suc (suc (suc (four_on (8 * i))))) (omega arith) (omega arith) in
+    eight (get_or text i 0) h _ _ _ _ _ _ _ _ b0 b1 b2 b3 b4 b5 b6 b7
   where
     eight : (a : ℕ) → a < 256 → (x0 x1 x2 x3 x4 x5 x6 x7 : ℕ) → x0 ≡ a / 1 % 2 → x1 ≡ a / 2 % 2 → x2 ≡ a / 4 % 2 → x3 ≡ a / 8 % 2
         → x4 ≡ a / 16 % 2 → x5 ≡ a / 32 % 2 → x6 ≡ a / 64 % 2 → x7 ≡ a / 128 % 2
@@ -87,9 +83,9 @@ octet-states text i h =
     eight a h x0 x1 x2 x3 x4 x5 x6 x7 e0 e1 e2 e3 e4 e5 e6 e7 = omega arith
 
 -- beyond a text's octets its path holds zeros
-pub path-beyond : (text : List ℕ) (m n : ℕ) → length text ≡ m → 8 * m ≤ n → path (bit text) (four-on n) ≡ false
-path-beyond text m n e h =
-    path-four (bit text) n ∙ zero-bit (getD text (n / 8) 0) (n % 8) (List·getD-eq-default text 0 (omega arith))
+pub path_beyond : (text : List ℕ) (m n : ℕ) → length text ≡ m → 8 * m ≤ n → path (bit text) (four_on n) ≡ false
+path_beyond text m n e h =
+    path_four (bit text) n ∙ zero_bit (get_or text (n / 8) 0) (n % 8) (get_or-eq_default text 0 (omega arith))
   where
-    zero-bit : (a t : ℕ) → a ≡ 0 → eqb (a / 2 ^ t % 2) 1 ≡ false
-    zero-bit a t p = rw (p, zero-div (2 ^ t)) refl
+    zero_bit : (a t : ℕ) → a ≡ 0 → eqb (a / 2 ^ t % 2) 1 ≡ false
+    zero_bit a t p = rw (p, zero-div (2 ^ t)) refl

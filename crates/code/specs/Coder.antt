@@ -1,23 +1,18 @@
 -- The convolutional code: what is sent for a text.
-use mathlib.Core.Bool.{Bool, false, cond, xor}
-use mathlib.Core.List.{List, [], _∷_, map}
-use Prim.Native.Nat.{ℕ, _+_, _-_, _*_, _/_, _%_, _^_}
-use lib.Dec.{eqb, leb, ltb}
-use lib.ListN.{length, getD}
-use Rattle·std.specs.Iters.{counting}
-use Rattle·std.specs.declared.result.Result.{Result}
-use Rattle·std.specs.declared.result.Result.the-variants.{Ok}
-use Rattle·refusal.specs.declared.Refusal.{Refusal}
-use Rattle·refusal.specs.declared.Refusal.the-variants.{MemoryTooShort, NoSuchPlace}
-use Rattle·refusal.specs.Answer.{refused-when, text-checked}
+use Rattle.std.specs.Prelude.{ℕ, ◌+◌, ◌-◌, ◌*◌, ◌/◌, ◌%◌, ◌^◌, Bool, false, cond, List, [], ◌∷◌, map, length, Ok, Result, ◌==◌, nat_le, nat_lt, slice_index, slice_index_or}
+use Rattle.std.specs.Bool.{xor}
+use Rattle.std.specs.List.{range_with_len}
+use Rattle.refusal.specs.declared.Refusal.{Refusal}
+use Rattle.refusal.specs.declared.Refusal.TheVariants.{MemoryTooShort, NoSuchPlace}
+use Rattle.refusal.specs.Answer.{refused_when, text_checked}
 
 -- bit k of a text: each octet is sent lowest bit first, and 0 after the last octet
 abbrev pub bit : List ℕ → ℕ → Bool
-bit text k = eqb (getD text (k / 8) 0 / 2 ^ (k % 8) % 2) 1
+bit text k = slice_index text (k / 8) / 2 ^ (k % 8) % 2 == 1
 
 -- b(k - d), and 0 before the first bit
 abbrev pub before : (ℕ → Bool) → ℕ → ℕ → Bool
-before b k d = cond (ltb k d) false (b (k - d))
+before b k d = cond (nat_lt k d) false (b (k - d))
 
 -- the four sums, in the order in which they are sent: each lists how many steps back the bits lie that it adds
 abbrev pub sums : List (List ℕ)
@@ -31,22 +26,22 @@ parity (b ∷ bs) = xor b (parity bs)
 
 -- the coded bit at index i of a stream of bits: each step sends its four sums
 abbrev pub coded : (ℕ → Bool) → ℕ → Bool
-coded b i = parity (map (before b (i / 4)) (getD sums (i % 4) []))
+coded b i = parity (map (before b (i / 4)) (slice_index_or sums (i % 4) []))
 
 -- a text of m octets has 8m steps and four more for the tail of zero bits; each gives four coded bits
-abbrev pub coded-count : ℕ → ℕ
-coded-count m = 32 * m + 16
+abbrev pub coded_count : ℕ → ℕ
+coded_count m = 32 * m + 16
 
 -- the coded bits of a text
-abbrev pub coded-bits : List ℕ → List Bool
-coded-bits text = map (coded (bit text)) (counting 0 (coded-count (length text)))
+abbrev pub coded_bits : List ℕ → List Bool
+coded_bits text = map (coded (bit text)) (range_with_len 0 (coded_count (length text)))
 
 -- the coded bit at i of a text, or 6 if i is past the last
-abbrev pub coded-bit-answer : List ℕ → ℕ → Result Bool Refusal
-coded-bit-answer text i =
-    text-checked (length text) (refused-when (leb (coded-count (length text)) i) NoSuchPlace (Ok (coded (bit text) i)))
+abbrev pub coded_bit_answer : List ℕ → ℕ → Result Bool Refusal
+coded_bit_answer text i =
+    text_checked (length text) (refused_when (nat_le (coded_count (length text)) i) NoSuchPlace (Ok (coded (bit text) i)))
 
 -- the number of coded bits, or 3 if they do not fit into `places` places
-abbrev pub encode-answer : List ℕ → ℕ → Result ℕ Refusal
-encode-answer text places =
-    text-checked (length text) (refused-when (ltb places (coded-count (length text))) MemoryTooShort (Ok (coded-count (length text))))
+abbrev pub encode_answer : List ℕ → ℕ → Result ℕ Refusal
+encode_answer text places =
+    text_checked (length text) (refused_when (nat_lt places (coded_count (length text))) MemoryTooShort (Ok (coded_count (length text))))

@@ -1,15 +1,11 @@
 // Octets to bits, and bits to coded bits: a convolutional code of rate 1/4 with a memory of four bits. And how much noise
 // the code corrects.
-ghost use mathlib.Core.Path.{_≡_};
-ghost use mathlib.Core.Bool.{Bool, false};
-ghost use mathlib.Core.List.{List, map};
-ghost use Prim.Native.Nat.{ℕ, _+_, _*_};
-ghost use lib.ListN.{length, getD};
-ghost use Rattle·refusal.specs.Answer.{after, text-checked};
-ghost use Rattle·std.specs.declared.result.Result.the-variants.{Ok};
-ghost use Rattle·code·specs.Coder.{before, bit, coded-bits, coded-bit-answer, coded-count, encode-answer};
-ghost use Rattle·code·specs.Register.{latest, shifted-in, four-sums};
-ghost use Rattle·code·specs.Separation.{Separated, Corrects};
+ghost use Rattle.std.specs.Prelude.{◌≡◌, ℕ, ◌+◌, ◌*◌, Bool, false, List, map, length, Ok};
+ghost use Rattle.refusal.specs.Answer.{after, text_checked};
+ghost use Rattle.code.specs.Coder.{before, bit, coded_bits, coded_bit_answer, coded_count, encode_answer};
+ghost use Rattle.code.specs.Register.{latest, shifted_in, four_sums};
+ghost use Rattle.code.specs.Separation.{Separated, Corrects};
+
 use refusal::Refusal;
 
 // The greatest number of octets of a text.
@@ -17,7 +13,7 @@ pub const LONGEST_TEXT: usize = 240;
 
 // Refuses a number of octets that no text has.
 pub fn check_length(m: usize) -> Result<(), Refusal>
-    ensures { λ r. ⌜ r ≡ text-checked m (Ok tt) ⌝ }
+    ensures { result ≡ text_checked m (Ok tt) }
 {
     if m == 0 {
         return Err(Refusal::EmptyText);
@@ -30,7 +26,7 @@ pub fn check_length(m: usize) -> Result<(), Refusal>
 
 // How many coded bits a text of m octets has.
 pub fn coded_count(m: usize) -> Result<usize, Refusal>
-    ensures { λ r. ⌜ r ≡ text-checked m (Ok (coded-count m)) ⌝ }
+    ensures { result ≡ text_checked m (Ok (coded_count m)) }
 {
     check_length(m)?;
     Ok(32 * m + 16)
@@ -38,7 +34,7 @@ pub fn coded_count(m: usize) -> Result<usize, Refusal>
 
 // The bit of the text that is sent at step k; zero bits follow the last octet.
 fn bit_at(text: &[u8], k: usize) -> bool
-    ensures { λ r. ⌜ r ≡ bit (now (text .entry)) k ⌝ }
+    ensures { result ≡ bit text.now k }
 {
     match text.get(k / 8) {
         Some(octet) => (*octet >> (k % 8)) & 1 == 1,
@@ -48,7 +44,7 @@ fn bit_at(text: &[u8], k: usize) -> bool
 
 // The bit d steps before step k, and 0 before the first bit.
 fn bit_before(text: &[u8], k: usize, d: usize) -> bool
-    ensures { λ r. ⌜ r ≡ before (bit (now (text .entry))) k d ⌝ }
+    ensures { result ≡ before (bit text.now) k d }
 {
     if k < d {
         return false;
@@ -65,7 +61,7 @@ struct Register {
 impl Register {
     // The register as step k of the text leaves it.
     fn at(text: &[u8], k: usize) -> Register
-        ensures { λ r. ⌜ r .bits ≡ latest (bit (now (text .entry))) k ⌝ }
+        ensures { result.bits ≡ latest (bit text.now) k }
     {
         Register {
             bits: [
@@ -80,7 +76,7 @@ impl Register {
 
     // The register after one more bit.
     fn shifted(self, bit: bool) -> Register
-        ensures { λ r. ⌜ r .bits ≡ shifted-in bit (self .bits) ⌝ }
+        ensures { result.bits ≡ shifted_in bit self.bits }
     {
         let [b0, b1, b2, b3, _] = self.bits;
         Register {
@@ -90,7 +86,7 @@ impl Register {
 
     // The four coded bits of the step that took the newest bit in.
     fn sums(self) -> [bool; 4]
-        ensures { λ r. ⌜ r ≡ four-sums (self .bits) ⌝ }
+        ensures { result ≡ four_sums self.bits }
     {
         let [b0, b1, b2, b3, b4] = self.bits;
         [
@@ -104,7 +100,7 @@ impl Register {
 
 // The coded bit of the text at index i, in constant time: for a stage, which asks place by place.
 pub fn coded_bit(text: &[u8], i: usize) -> Result<bool, Refusal>
-    ensures { λ r. ⌜ r ≡ coded-bit-answer (now (text .entry)) i ⌝ }
+    ensures { result ≡ coded_bit_answer text.now i }
 {
     if i >= coded_count(text.len())? {
         return Err(Refusal::NoSuchPlace);
@@ -115,8 +111,8 @@ pub fn coded_bit(text: &[u8], i: usize) -> Result<bool, Refusal>
 
 // Writes the coded bits of the text into the first places of `out`, in one pass, and returns their number.
 pub fn encode(text: &[u8], out: &mut [bool]) -> Result<usize, Refusal>
-    ensures answer { λ r. ⌜ r ≡ encode-answer (now (text .entry)) (length (now (out .entry))) ⌝ }
-    ensures memory { λ r. ⌜ now (out .exit) ≡ after r (coded-bits (now (text .entry))) (now (out .entry)) ⌝ }
+    ensures answer { result ≡ encode_answer text.now (length out.old) }
+    ensures memory { out.new ≡ after result (coded_bits text.now) out.old }
 {
     let count = coded_count(text.len())?;
     if out.len() < count {
@@ -136,23 +132,23 @@ pub fn encode(text: &[u8], out: &mut [bool]) -> Result<usize, Refusal>
 
 // The least number of ones in the coded difference of two texts: 4 where it begins, and 12 on its way back to zeros.
 fn least_weight() -> u32
-    ensures { λ r. ⌜ r ≡ 16 ⌝ }
+    ensures { result ≡ 16 }
 {
     4 + 12
 }
 
 // The least number of places in which the coded bits of two different texts of one length differ.
 pub fn least_separation() -> u32
-    ensures sixteen { λ r. ⌜ r ≡ 16 ⌝ }
-    ensures separated { λ r. ⌜ Separated r ⌝ }
+    ensures sixteen { result ≡ 16 }
+    ensures separated { Separated result }
 {
     least_weight()
 }
 
 // The greatest noise below a separation.
 fn noise_below(separation: u32) -> u32
-    requires { ⌜ separation ≡ 16 ⌝ }
-    ensures { λ r. ⌜ r ≡ 15 ⌝ }
+    requires { separation ≡ 16 }
+    ensures { result ≡ 15 }
 {
     separation - 1
 }
@@ -160,8 +156,8 @@ fn noise_below(separation: u32) -> u32
 // How much noise is corrected, twice the wrong coded bits plus the lost ones: up to here every text sent costs less than
 // every other of its length.
 pub fn corrected_noise() -> u32
-    ensures fifteen { λ r. ⌜ r ≡ 15 ⌝ }
-    ensures corrects { λ r. ⌜ Corrects r ⌝ }
+    ensures fifteen { result ≡ 15 }
+    ensures corrects { Corrects result }
 {
     noise_below(least_separation())
 }

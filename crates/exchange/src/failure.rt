@@ -1,12 +1,9 @@
 // Why a call of this crate has no result.
-ghost use mathlib.Core.Path.{_≡_};
-ghost use Rattle·std.specs.declared.option.Option.the-variants.{Some};
-ghost use Rattle·exchange·specs.declared.failure.Failure.the-variants.{Refused, OutOfMemory};
-ghost use Rattle·exchange·specs.Failures.{failure-line};
+ghost use Rattle.std.specs.Prelude.{◌≡◌, Some};
+ghost use Rattle.exchange.specs.declared.failure.Failure.TheVariants.{Refused, OutOfMemory};
+ghost use Rattle.exchange.specs.Failures.{failure_line};
+
 use refusal::Refusal;
-use refusal::RefusalDebug;
-use refusal::RefusalDisplay;
-use refusal::RefusalPartialEq;
 use std::alloc::AllocError;
 use std::fmt;
 
@@ -18,16 +15,16 @@ pub enum Failure {
     OutOfMemory,
 }
 
-pub impl From<Refusal> for Failure as FailureFromRefusal {
-    ghost converts = { λ refusal r. r ≡ Refused refusal };
+impl From<Refusal> for Failure {
+    ghost from_gives = { λ refusal r. r ≡ Refused refusal };
 
     fn from(refusal: Refusal) -> Failure {
         Failure::Refused(refusal)
     }
 }
 
-pub impl From<AllocError> for Failure as FailureFromAlloc {
-    ghost converts = { λ _ r. r ≡ OutOfMemory };
+impl From<AllocError> for Failure {
+    ghost from_gives = { λ _ r. r ≡ OutOfMemory };
 
     fn from(_error: AllocError) -> Failure {
         Failure::OutOfMemory
@@ -35,8 +32,8 @@ pub impl From<AllocError> for Failure as FailureFromAlloc {
 }
 
 // A refusal prints its number and its sentence.
-pub impl fmt::Display for Failure as FailureDisplay {
-    ghost shown = { λ failure. Some (failure-line failure) };
+impl fmt::Display for Failure {
+    ghost output = { λ failure. Some (failure_line failure) };
 
     fn fmt<W: fmt::Write>(&self, f: &mut fmt::Formatter<W>) -> fmt::Result {
         match self {

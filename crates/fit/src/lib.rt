@@ -1,13 +1,7 @@
 // Where a burst stands among what was heard: the start at which a pile's markers fit best.
-ghost use mathlib.Core.Path.{_≡_};
-ghost use mathlib.Core.Bool.{cond};
-ghost use Prim.Native.Nat.{_≤_, _<_};
-ghost use lib.Dec.{T};
-ghost use lib.IntN.{pos, negsuc, negℤ};
-ghost use lib.Signed.{_≤ℤ_};
-ghost use lib.ListN.{length};
-ghost use Rattle·std.specs.declared.result.Result.the-variants.{Ok};
-ghost use Rattle·fit·specs.Fit.{fit, fits-well, best-of, best-start-answer};
+ghost use Rattle.std.specs.Prelude.{◌≡◌, ◌<◌, ◌≤◌, T, length, pos, negsuc, neg_ℤ, ◌≤ℤ◌, if◌then◌else◌, Ok};
+ghost use Rattle.fit.specs.Fit.{fit, fits_well, best_of, best_start_answer};
+
 use refusal::Refusal;
 use stage::MarkedStage;
 use values::Values;
@@ -17,9 +11,9 @@ pub const LEAST_FIT: i32 = 64;
 
 // How far a value speaks for a bit.
 fn agreement(value: i8, bit: bool) -> i32
-    ensures value { λ r. ⌜ r ≡ cond bit value (negℤ value) ⌝ }
-    ensures least { λ r. ⌜ negsuc 127 ≤ℤ r ⌝ }
-    ensures most { λ r. ⌜ r ≤ℤ pos 128 ⌝ }
+    ensures value { result ≡ (if bit then value else neg_ℤ value) }
+    ensures least { negsuc 127 ≤ℤ result }
+    ensures most { result ≤ℤ pos 128 }
 {
     if bit {
         i32::from(value)
@@ -36,10 +30,10 @@ fn fit_at<V: Values, M: MarkedStage>(
     markers: usize,
     start: usize,
 ) -> Result<i32, Refusal>
-    requires takes { ⌜ T (M·Stage .meaning (now stage) .takes n) ⌝ }
-    requires all { ⌜ markers ≡ length (M·MarkedStage .markers (now stage) n) ⌝ }
-    requires few { ⌜ markers ≤ 32768 ⌝ }
-    ensures { λ r. ⌜ r ≡ Ok (fit (V·Values .standing (now (values .entry))) (M·MarkedStage .markers (now (stage .entry)) n) start) ⌝ }
+    requires takes { T ((M.Stage.meaning stage.now).takes n) }
+    requires all { markers ≡ length (M.MarkedStage.markers stage.now n) }
+    requires few { markers ≤ 32768 }
+    ensures { result ≡ Ok (fit (V.Values.standing values.now) (M.MarkedStage.markers stage.now n) start) }
 {
     let mut sum = 0;
     for index in 0..markers {
@@ -57,11 +51,11 @@ fn earliest_best<V: Values, M: MarkedStage>(
     markers: usize,
     starts: usize,
 ) -> Result<(usize, i32), Refusal>
-    requires takes { ⌜ T (M·Stage .meaning (now stage) .takes n) ⌝ }
-    requires all { ⌜ markers ≡ length (M·MarkedStage .markers (now stage) n) ⌝ }
-    requires few { ⌜ markers ≤ 32768 ⌝ }
-    requires some { ⌜ 0 < starts ⌝ }
-    ensures { λ r. ⌜ r ≡ Ok (best-of (fit (V·Values .standing (now (values .entry))) (M·MarkedStage .markers (now (stage .entry)) n)) starts) ⌝ }
+    requires takes { T ((M.Stage.meaning stage.now).takes n) }
+    requires all { markers ≡ length (M.MarkedStage.markers stage.now n) }
+    requires few { markers ≤ 32768 }
+    requires some { 0 < starts }
+    ensures { result ≡ Ok (best_of (fit (V.Values.standing values.now) (M.MarkedStage.markers stage.now n)) starts) }
 {
     let mut best = 0;
     let mut greatest = fit_at(values, stage, n, markers, 0)?;
@@ -77,8 +71,8 @@ fn earliest_best<V: Values, M: MarkedStage>(
 
 // Refuses a best start whose fit is below 64 times the markers.
 fn check_fit(best: (usize, i32), markers: usize) -> Result<(usize, i32), Refusal>
-    requires { ⌜ markers ≤ 32768 ⌝ }
-    ensures { λ r. ⌜ r ≡ fits-well markers best ⌝ }
+    requires { markers ≤ 32768 }
+    ensures { result ≡ fits_well markers best }
 {
     let (_, fit) = best;
     if fit < LEAST_FIT * markers as i32 {
@@ -94,7 +88,7 @@ pub fn best_start<V: Values, M: MarkedStage>(
     stage: &M,
     n: usize,
 ) -> Result<(usize, i32), Refusal>
-    ensures { λ r. ⌜ r ≡ best-start-answer (M·Stage .meaning (now (stage .entry))) (M·MarkedStage .markers (now (stage .entry))) n (V·Values .standing (now (values .entry))) ⌝ }
+    ensures { result ≡ best_start_answer (M.Stage.meaning stage.now) (M.MarkedStage.markers stage.now) n (V.Values.standing values.now) }
 {
     let length = stage.length(n)?;
     let count = values.count();

@@ -1,23 +1,15 @@
 // Whole histories: a list of calls replayed on a receiver, each answer being the one that the rules give.
-ghost use mathlib.Core.Path.{_≡_};
-ghost use mathlib.Core.Bool.{true};
-ghost use mathlib.Core.List.{map};
-ghost use lib.Dec.{ltb};
-ghost use lib.ListN.{length, take};
-ghost use Rattle·std.specs.Results.{isOk};
-ghost use Rattle·std.specs.declared.result.Result.the-variants.{Ok};
-ghost use Rattle·refusal.specs.declared.Refusal.the-variants.{MemoryTooShort};
-ghost use Rattle·refusal.specs.Answer.{refused-when};
-ghost use Rattle·receiver.specs.State.{reads};
-ghost use Rattle·receiver.specs.Held.{room, held, Follows, read-of, string-of};
-ghost use Rattle·history·specs.History.{reply, answered, done, found, as-request, as-reply, Replayed};
+ghost use Rattle.std.specs.Prelude.{◌≡◌, true, map, length, take, is_ok, Ok, nat_lt};
+ghost use Rattle.refusal.specs.declared.Refusal.TheVariants.{MemoryTooShort};
+ghost use Rattle.refusal.specs.Answer.{refused_when};
+ghost use Rattle.receiver.specs.State.{reads};
+ghost use Rattle.receiver.specs.Held.{room, held, Follows, read_of, string_of};
+ghost use Rattle.history.specs.History.{reply, answered, done, found, as_request, as_reply, Replayed};
+
 use code::LONGEST_TEXT;
 use receiver::Receiver;
 use refusal::Refusal;
-use refusal::RefusalDebug;
-use refusal::RefusalPartialEq;
-use stage::MarkedStage;
-use stage::Stage;
+use stage::{MarkedStage, Stage};
 
 // The most working memory that a read uses: a place for each of 8 * 240 + 4 steps.
 const MOST_STEPS: usize = 1_924;
@@ -63,20 +55,20 @@ pub enum Answer {
 
 impl Answer {
     // From a call that has no result of its own.
-    fn of_done(result: Result<(), Refusal>) -> Answer
-        ensures { λ r. ⌜ as-reply r ≡ answered (λ _. done) result ⌝ }
+    fn of_done(res: Result<(), Refusal>) -> Answer
+        ensures { as_reply result ≡ answered (λ _. done) res }
     {
-        match result {
+        match res {
             Ok(()) => Answer::Done,
             Err(refusal) => Answer::Refused(refusal),
         }
     }
 
     // From a find.
-    fn of_found(result: Result<(usize, i32), Refusal>) -> Answer
-        ensures { λ r. ⌜ as-reply r ≡ answered (λ best. found (best .0) (best .1)) result ⌝ }
+    fn of_found(res: Result<(usize, i32), Refusal>) -> Answer
+        ensures { as_reply result ≡ answered (λ best. found best.0 best.1) res }
     {
-        match result {
+        match res {
             Ok((start, fit)) => Answer::Found { start, fit },
             Err(refusal) => Answer::Refused(refusal),
         }
@@ -94,10 +86,10 @@ fn read_into<S: Stage>(
     steps: &mut [u16],
     work: usize,
 ) -> Result<u32, Refusal>
-    requires octets { ⌜ length (now octets) ≡ 240 ⌝ }
-    requires steps { ⌜ length (now steps) ≡ 1924 ⌝ }
-    ensures answer { λ r. ⌜ r ≡ read-of (now (receiver .entry)) (S·Stage .meaning (now (pile .entry))) m text work ⌝ }
-    ensures text { λ r. ⌜ (isOk r ≡ true → take m (now (octets .exit)) ≡ string-of (now (receiver .entry)) (S·Stage .meaning (now (pile .entry))) m) ⌝ }
+    requires octets { length octets.old ≡ 240 }
+    requires steps { length steps.old ≡ 1924 }
+    ensures answer { result ≡ read_of receiver.now (S.Stage.meaning pile.now) m text work }
+    ensures text { is_ok result ≡ true → take m octets.new ≡ string_of receiver.now (S.Stage.meaning pile.now) m }
 {
     let text = text.min(octets.len());
     let work = work.min(steps.len());
@@ -106,7 +98,7 @@ fn read_into<S: Stage>(
 
 // Reads a text of m octets, with text memory and working memory of these lengths.
 fn read<S: Stage>(receiver: &Receiver, pile: &S, m: usize, text: usize, work: usize) -> Answer
-    ensures { λ r. ⌜ as-reply r ≡ reply (room (now (receiver .entry))) (held (now (receiver .entry))) (reads (S·Stage .meaning (now (pile .entry))) m text work) ⌝ }
+    ensures { as_reply result ≡ reply (room receiver.now) (held receiver.now) (reads (S.Stage.meaning pile.now) m text work) }
 {
     let mut octets = [0; LONGEST_TEXT];
     let mut steps = [0; MOST_STEPS];
@@ -121,9 +113,9 @@ fn read<S: Stage>(receiver: &Receiver, pile: &S, m: usize, text: usize, work: us
 
 // Makes a call.
 fn make<M: MarkedStage, S: Stage>(receiver: &mut Receiver, call: &Call<M, S>) -> Answer
-    ensures answer { λ r. ⌜ as-reply r ≡ reply (room (now (receiver .entry))) (held (now (receiver .entry)))
-        (as-request (M·Stage .meaning) (M·MarkedStage .markers) (S·Stage .meaning) (now (call .entry))) ⌝ }
-    ensures after { λ _. ⌜ Follows (now (receiver .entry)) (as-request (M·Stage .meaning) (M·MarkedStage .markers) (S·Stage .meaning) (now (call .entry))) (now (receiver .exit)) ⌝ }
+    ensures answer { as_reply result ≡ reply (room receiver.old) (held receiver.old)
+        (as_request M.Stage.meaning M.MarkedStage.markers S.Stage.meaning call.now) }
+    ensures after { Follows receiver.old (as_request M.Stage.meaning M.MarkedStage.markers S.Stage.meaning call.now) receiver.new }
 {
     match call {
         Call::Begin => {
@@ -149,10 +141,10 @@ pub fn replay<M: MarkedStage, S: Stage>(
     calls: &[Call<M, S>],
     answers: &mut [Answer],
 ) -> Result<(), Refusal>
-    ensures answer { λ r. ⌜ r ≡ refused-when (ltb (length (now (answers .entry))) (length (now (calls .entry)))) MemoryTooShort (Ok tt) ⌝ }
-    ensures replayed { λ r. ⌜ Replayed (isOk r) (now (memory .entry)) (now (memory .exit))
-        (map (as-request (M·Stage .meaning) (M·MarkedStage .markers) (S·Stage .meaning)) (now (calls .entry)))
-        (now (answers .entry)) (now (answers .exit)) ⌝ }
+    ensures answer { result ≡ refused_when (nat_lt (length answers.old) (length calls.now)) MemoryTooShort (Ok tt) }
+    ensures replayed { Replayed (is_ok result) memory.old memory.new
+        (map (as_request M.Stage.meaning M.MarkedStage.markers S.Stage.meaning) calls.now)
+        answers.old answers.new }
 {
     if answers.len() < calls.len() {
         return Err(Refusal::MemoryTooShort);

@@ -1,34 +1,31 @@
 -- The lead: eight bits in front of everything.
-use mathlib.Core.Bool.{Bool, cond}
-use mathlib.Core.List.{List, [], _∷_}
-use Prim.Native.Nat.{ℕ, _+_, _-_}
-use lib.Dec.{ltb}
-use Rattle·stage.specs.declared.Content.{Content}
-use Rattle·stage.specs.declared.Content.the-variants.{Carried, Fixed}
-use Rattle·stage.specs.declared.Marker.{Marker}
-use Rattle·stage.specs.Meaning.{Meaning, meaning-of}
-use Rattle·stage.specs.Places.{markers-at}
-use Rattle·layout·specs.Pattern.{taken, pattern-bit}
+use Rattle.std.specs.Prelude.{ℕ, ◌+◌, ◌-◌, Bool, cond, List, [], ◌∷◌, nat_lt}
+use Rattle.stage.specs.declared.Content.{Content}
+use Rattle.stage.specs.declared.Content.TheVariants.{Carried, Fixed}
+use Rattle.stage.specs.declared.Marker.{Marker}
+use Rattle.stage.specs.Meaning.{Meaning, meaning_of}
+use Rattle.stage.specs.Places.{markers_at}
+use Rattle.layout.specs.Pattern.{taken, pattern_bit}
 
 -- the first eight places hold the lead
-abbrev pub in-lead : ℕ → Bool
-in-lead p = ltb p 8
+abbrev pub in_lead : ℕ → Bool
+in_lead p = nat_lt p 8
 
 -- its bits, 00101101
-abbrev pub lead-bit : ℕ → Bool
-lead-bit p = pattern-bit (0x2D ∷ []) p
+abbrev pub lead_bit : ℕ → Bool
+lead_bit p = pattern_bit (0x2D ∷ []) p
 
 -- eight more leave than enter
-abbrev pub lead-size : ℕ → ℕ
-lead-size n = n + 8
+abbrev pub lead_size : ℕ → ℕ
+lead_size n = n + 8
 
 -- behind the lead the incoming elements follow in order
-abbrev pub lead-at : ℕ → ℕ → Content
-lead-at n p = cond (in-lead p) (Fixed (lead-bit p)) (Carried (p - 8))
+abbrev pub lead_at : ℕ → ℕ → Content
+lead_at n p = cond (in_lead p) (Fixed (lead_bit p)) (Carried (p - 8))
 
-abbrev pub lead-meaning : Meaning
-lead-meaning = meaning-of taken lead-size lead-at
+abbrev pub lead_meaning : Meaning
+lead_meaning = meaning_of taken lead_size lead_at
 
 -- the markers are the eight bits
-abbrev pub lead-markers : ℕ → List Marker
-lead-markers n = markers-at in-lead lead-bit (lead-size n)
+abbrev pub lead_markers : ℕ → List Marker
+lead_markers n = markers_at in_lead lead_bit (lead_size n)

@@ -4,3 +4,8 @@ pub mod Lead
 pub mod Pattern
 pub mod PileOfThree
 pub mod Standard
+pub mod InserterLaws
+pub mod Tables
+pub mod Terms
+pub mod InterleaverLaws
+pub mod LeadLaws

@@ -1,15 +1,13 @@
 // The inserter: mutes and resynchronisation sequences come between the elements, which they delay and never replace.
-ghost use Rattle·layout·specs.Pattern.{taken};
-ghost use Rattle·layout·specs.Inserter.{inserter-size, inserter-at, inserter-meaning, inserter-markers};
-use crate::pattern;
-use crate::period;
-use crate::period::CARRIERS;
-use crate::period::PERIOD;
+ghost use Rattle.layout.specs.Pattern.{taken};
+ghost use Rattle.layout.specs.Inserter.{inserter_size, inserter_at, inserter_meaning, inserter_markers};
+ghost use Rattle.layout.specs.InserterLaws.{inserter_homes};
+ghost use Rattle.std.proofs.Common.{rules};
+
+use crate::period::{CARRIERS, PERIOD};
+use crate::{pattern, period};
 use refusal::Refusal;
-use stage::Content;
-use stage::MarkedStage;
-use stage::Marker;
-use stage::Stage;
+use stage::{Content, MarkedStage, Marker, Stage};
 
 // 01010110 01101110 11010010 01110001.
 const RESYNC: [u8; 4] = [0x56, 0x6E, 0xD2, 0x71];
@@ -23,14 +21,18 @@ const RESYNC_AT: usize = 352;
 #[derive(Clone, Copy)]
 pub struct Inserter;
 
-pub impl Stage for Inserter as InserterStage {
+impl Stage for Inserter {
     ghost takes = { λ _. taken };
 
-    ghost size = { λ _. inserter-size };
+    ghost size = { λ _. inserter_size };
 
-    ghost at = { λ _. inserter-at };
+    ghost at = { λ _. inserter_at };
 
-    ghost meaning = { λ _. inserter-meaning };
+    ghost meaning = { λ _. inserter_meaning };
+
+    ghost whole = { Prim.search rules };
+
+    ghost homes = { λ s. inserter_homes };
 
     fn length(&self, n: usize) -> Result<usize, Refusal> {
         crate::check_count(n)?;
@@ -63,8 +65,8 @@ pub impl Stage for Inserter as InserterStage {
     }
 }
 
-pub impl MarkedStage for Inserter as InserterMarked {
-    ghost markers = { λ _. inserter-markers };
+impl MarkedStage for Inserter {
+    ghost markers = { λ _. inserter_markers };
 
     fn marker_count(&self, n: usize) -> Result<usize, Refusal> {
         crate::check_count(n)?;

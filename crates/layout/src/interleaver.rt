@@ -1,16 +1,14 @@
 // The interleaver: elements are spread over eight columns, some of them inverted, behind a preamble.
-ghost use mathlib.Core.Path.{_≡_};
-ghost use mathlib.Core.Bool.{true};
-ghost use Prim.Native.Nat.{_<_};
-ghost use Rattle·refusal.specs.Counting.{count};
-ghost use Rattle·layout·specs.Pattern.{taken};
-ghost use Rattle·layout·specs.Interleaver.{scrambled, in-preamble, interleaver-size, interleaver-at, interleaver-meaning, interleaver-markers};
+ghost use Rattle.std.specs.Prelude.{◌≡◌, ◌<◌, true};
+ghost use Rattle.refusal.specs.Counting.{count};
+ghost use Rattle.layout.specs.Pattern.{taken};
+ghost use Rattle.layout.specs.Interleaver.{scrambled, in_preamble, interleaver_size, interleaver_at, interleaver_meaning, interleaver_markers};
+ghost use Rattle.layout.specs.InterleaverLaws.{interleaver_homes};
+ghost use Rattle.std.proofs.Common.{rules};
+
 use crate::pattern;
 use refusal::Refusal;
-use stage::Content;
-use stage::MarkedStage;
-use stage::Marker;
-use stage::Stage;
+use stage::{Content, MarkedStage, Marker, Stage};
 
 const COLUMNS: usize = 8;
 
@@ -30,62 +28,9 @@ const BEFORE_ROW: [u8; 14] = [0, 7, 14, 20, 26, 31, 36, 40, 44, 47, 50, 52, 54, 
 
 // The places of the preamble, in order.
 const PREAMBLE_PLACES: [u8; 56] = [
-    1,
-    2,
-    3,
-    4,
-    5,
-    6,
-    7,
-    9,
-    10,
-    11,
-    12,
-    13,
-    14,
-    15,
-    18,
-    19,
-    20,
-    21,
-    22,
-    23,
-    26,
-    27,
-    28,
-    29,
-    30,
-    31,
-    35,
-    36,
-    37,
-    38,
-    39,
-    43,
-    44,
-    45,
-    46,
-    47,
-    52,
-    53,
-    54,
-    55,
-    60,
-    61,
-    62,
-    63,
-    69,
-    70,
-    71,
-    77,
-    78,
-    79,
-    86,
-    87,
-    94,
-    95,
-    103,
-    111,
+    1, 2, 3, 4, 5, 6, 7, 9, 10, 11, 12, 13, 14, 15, 18, 19, 20, 21, 22, 23, 26, 27, 28, 29, 30, 31,
+    35, 36, 37, 38, 39, 43, 44, 45, 46, 47, 52, 53, 54, 55, 60, 61, 62, 63, 69, 70, 71, 77, 78, 79,
+    86, 87, 94, 95, 103, 111,
 ];
 
 // Spreads elements over the columns, behind its preamble. The first bit of that is the highest of its first octet.
@@ -96,7 +41,7 @@ pub struct Interleaver {
 
 // Whether a column's elements are inverted.
 fn is_scrambled(column: usize) -> bool
-    ensures { λ r. ⌜ r ≡ scrambled column ⌝ }
+    ensures { result ≡ scrambled column }
 {
     match column {
         0 | 2 | 3 | 6 | 7 => true,
@@ -106,23 +51,27 @@ fn is_scrambled(column: usize) -> bool
 
 // The index of the preamble bit that stands at a place.
 fn preamble_index(place: usize) -> usize
-    requires { ⌜ in-preamble place ≡ true ⌝ }
-    ensures index { λ r. ⌜ r ≡ count place in-preamble ⌝ }
-    ensures below { λ r. ⌜ r < 56 ⌝ }
+    requires { in_preamble place ≡ true }
+    ensures index { result ≡ count place in_preamble }
+    ensures below { result < 56 }
 {
     let row = place / COLUMNS;
     let skipped = row / DELAY + 1;
     usize::from(BEFORE_ROW[row]) + (place % COLUMNS - skipped)
 }
 
-pub impl Stage for Interleaver as InterleaverStage {
+impl Stage for Interleaver {
     ghost takes = { λ _. taken };
 
-    ghost size = { λ _. interleaver-size };
+    ghost size = { λ _. interleaver_size };
 
-    ghost at = { λ s. interleaver-at (s .preamble) };
+    ghost at = { λ s. interleaver_at s.preamble };
 
-    ghost meaning = { λ s. interleaver-meaning (s .preamble) };
+    ghost meaning = { λ s. interleaver_meaning s.preamble };
+
+    ghost whole = { Prim.search rules };
+
+    ghost homes = { λ s. interleaver_homes s.preamble };
 
     fn length(&self, n: usize) -> Result<usize, Refusal> {
         crate::check_count(n)?;
@@ -158,8 +107,8 @@ pub impl Stage for Interleaver as InterleaverStage {
     }
 }
 
-pub impl MarkedStage for Interleaver as InterleaverMarked {
-    ghost markers = { λ s. interleaver-markers (s .preamble) };
+impl MarkedStage for Interleaver {
+    ghost markers = { λ s. interleaver_markers s.preamble };
 
     fn marker_count(&self, n: usize) -> Result<usize, Refusal> {
         crate::check_count(n)?;

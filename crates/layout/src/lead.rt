@@ -1,12 +1,12 @@
 // The lead: eight bits in front of everything, by which the start of a burst is found.
-ghost use Rattle·layout·specs.Pattern.{taken};
-ghost use Rattle·layout·specs.Lead.{lead-size, lead-at, lead-meaning, lead-markers};
+ghost use Rattle.layout.specs.Pattern.{taken};
+ghost use Rattle.layout.specs.Lead.{lead_size, lead_at, lead_meaning, lead_markers};
+ghost use Rattle.layout.specs.LeadLaws.{lead_homes};
+ghost use Rattle.std.proofs.Common.{rules};
+
 use crate::pattern;
 use refusal::Refusal;
-use stage::Content;
-use stage::MarkedStage;
-use stage::Marker;
-use stage::Stage;
+use stage::{Content, MarkedStage, Marker, Stage};
 
 // 00101101.
 const LEAD: [u8; 1] = [0x2D];
@@ -17,14 +17,18 @@ const LEAD_BITS: usize = 8;
 #[derive(Clone, Copy)]
 pub struct Lead;
 
-pub impl Stage for Lead as LeadStage {
+impl Stage for Lead {
     ghost takes = { λ _. taken };
 
-    ghost size = { λ _. lead-size };
+    ghost size = { λ _. lead_size };
 
-    ghost at = { λ _. lead-at };
+    ghost at = { λ _. lead_at };
 
-    ghost meaning = { λ _. lead-meaning };
+    ghost meaning = { λ _. lead_meaning };
+
+    ghost whole = { Prim.search rules };
+
+    ghost homes = { λ s. lead_homes };
 
     fn length(&self, n: usize) -> Result<usize, Refusal> {
         crate::check_count(n)?;
@@ -51,8 +55,8 @@ pub impl Stage for Lead as LeadStage {
     }
 }
 
-pub impl MarkedStage for Lead as LeadMarked {
-    ghost markers = { λ _. lead-markers };
+impl MarkedStage for Lead {
+    ghost markers = { λ _. lead_markers };
 
     fn marker_count(&self, n: usize) -> Result<usize, Refusal> {
         crate::check_count(n)?;

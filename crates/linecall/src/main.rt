@@ -1,28 +1,13 @@
 // Runs two lines through a list of calls each: one whose far end answers, and one that stays silent for long.
 // Prints each call, its answer with the octets to send, and the state of the line after it.
-ghost use mathlib.Core.Bool.{cond, false};
-ghost use mathlib.Core.Path.{_≡_};
-ghost use lib.Chars.{codes};
-ghost use Rattle·std.specs.Options.{isSome};
-ghost use Rattle·std.specs.declared.option.Option.the-variants.{Some, None};
-ghost use Rattle·character.specs.Reader.{holds-enquiry};
-ghost use Rattle·negotiation.specs.declared.State.the-variants.{Known as KnownLine};
-ghost use Rattle·negotiation.specs.Sent.{settled};
-ghost use Rattle·negotiation.specs.Transitions.{calls-for-one, is-known};
-use character::Characters;
-use character::CharactersIterator;
-use character::Item;
-use character::remove_controls;
-use negotiation::Acknowledgement;
-use negotiation::Answer;
-use negotiation::Call;
-use negotiation::Due;
-use negotiation::Entry;
-use negotiation::Line;
-use negotiation::State;
-use negotiation::Wanted;
-use negotiation::replay;
-use refusal::RefusalDisplay;
+ghost use Rattle.std.specs.Prelude.{◌≡◌, false, is_some, if◌then◌else◌, Some, None, codes};
+ghost use Rattle.character.specs.Reader.{holds_enquiry};
+ghost use Rattle.negotiation.specs.declared.State.TheVariants.{Known as KnownLine};
+ghost use Rattle.negotiation.specs.Sent.{settled};
+ghost use Rattle.negotiation.specs.Transitions.{calls_for_one, is_known};
+
+use character::{Characters, Item, remove_controls};
+use negotiation::{Acknowledgement, Answer, Call, Due, Entry, Line, State, Wanted, replay};
 use std::io;
 
 // The text that waits in both examples.
@@ -68,45 +53,45 @@ const SILENT: [Call; 9] = [
     Call::Hear { text: b"\x05" },
 ];
 
-fn show_state(rt: &LibcRuntime, state: State) -> io::Result<()> {
+fn show_state(rt: &HostRuntime, state: State) -> io::Result<()> {
     match state {
-        State::New => println!(rt, "  the line is new"),
+        State::New => println!(rt; "  the line is new"),
         State::Asking {
             attempt,
             milliseconds,
-        } => println!(rt, "  asking, try {attempt}, at {milliseconds} ms"),
-        State::Known => println!(rt, "  the line is known"),
-        State::Clear => println!(rt, "  the line is clear"),
+        } => println!(rt; "  asking, try {attempt}, at {milliseconds} ms"),
+        State::Known => println!(rt; "  the line is known"),
+        State::Clear => println!(rt; "  the line is clear"),
     }
 }
 
-fn show_octets(rt: &LibcRuntime, octets: &[u8]) -> io::Result<()> {
+fn show_octets(rt: &HostRuntime, octets: &[u8]) -> io::Result<()> {
     for octet in octets {
-        print!(rt, " {octet:02X}")?;
+        print!(rt; " {octet:02X}")?;
     }
-    println!(rt, "")
+    println!(rt; "")
 }
 
-fn show_wanted(rt: &LibcRuntime, wanted: Wanted) -> io::Result<()> {
+fn show_wanted(rt: &HostRuntime, wanted: Wanted) -> io::Result<()> {
     match wanted {
-        Wanted::Nothing => println!(rt, "  wanted: nothing"),
+        Wanted::Nothing => println!(rt; "  wanted: nothing"),
         Wanted::EnquiryBurst => {
-            print!(rt, "  wanted: an enquiry burst,")?;
+            print!(rt; "  wanted: an enquiry burst,")?;
             show_octets(rt, wanted.octets())
         }
     }
 }
 
-fn show_acknowledgement(rt: &LibcRuntime, sent: Acknowledgement) -> io::Result<()> {
+fn show_acknowledgement(rt: &HostRuntime, sent: Acknowledgement) -> io::Result<()> {
     match sent {
-        Acknowledgement::Idle => print!(rt, "  acknowledged: by an idle,")?,
-        Acknowledgement::Text => print!(rt, "  acknowledged: by the text,")?,
+        Acknowledgement::Idle => print!(rt; "  acknowledged: by an idle,")?,
+        Acknowledgement::Text => print!(rt; "  acknowledged: by the text,")?,
     }
     show_octets(rt, sent.octets(WAITING))
 }
 
 fn waits(waiting: bool) -> &'static str
-    ensures { λ r. ⌜ now r ≡ cond waiting (codes "text waits") (codes "no text waits") ⌝ }
+    ensures { result.now ≡ (if waiting then codes "text waits" else codes "no text waits") }
 {
     if waiting {
         "text waits"
@@ -116,47 +101,47 @@ fn waits(waiting: bool) -> &'static str
 }
 
 // Some milliseconds pass.
-fn tick(rt: &LibcRuntime, line: &mut Line, milliseconds: u32, waiting: bool) -> io::Result<()> {
+fn tick(rt: &HostRuntime, line: &mut Line, milliseconds: u32, waiting: bool) -> io::Result<()> {
     let wanted = line.tick(milliseconds, waiting);
     let waits = waits(waiting);
-    println!(rt, "{milliseconds} ms passed, {waits}")?;
+    println!(rt; "{milliseconds} ms passed, {waits}")?;
     show_wanted(rt, wanted)?;
     show_state(rt, line.state())
 }
 
 // The items of a text, each with its place.
-fn show_items(rt: &LibcRuntime, text: &[u8]) -> io::Result<()> {
+fn show_items(rt: &HostRuntime, text: &[u8]) -> io::Result<()> {
     for placed in Characters::new(text) {
         let place = placed.place;
         match placed.item {
-            Item::Enquiry => println!(rt, "  at {place}: an enquiry")?,
-            Item::Idle => println!(rt, "  at {place}: an idle")?,
-            Item::Character(c) => println!(rt, "  at {place}: the character {c}")?,
-            Item::Broken(octet) => println!(rt, "  at {place}: the broken octet {octet:02X}")?,
+            Item::Enquiry => println!(rt; "  at {place}: an enquiry")?,
+            Item::Idle => println!(rt; "  at {place}: an idle")?,
+            Item::Character(c) => println!(rt; "  at {place}: the character {c}")?,
+            Item::Broken(octet) => println!(rt; "  at {place}: the broken octet {octet:02X}")?,
         }
     }
     Ok(())
 }
 
 // What an operator's screen is given of a text.
-fn show_screen(rt: &LibcRuntime, text: &[u8]) -> io::Result<()> {
+fn show_screen(rt: &HostRuntime, text: &[u8]) -> io::Result<()> {
     let mut screen = [0; 16];
     match remove_controls(text, &mut screen) {
         Ok(length) => {
-            print!(rt, "  for the screen:")?;
+            print!(rt; "  for the screen:")?;
             for octet in screen.iter().take(length) {
-                print!(rt, " {octet:02X}")?;
+                print!(rt; " {octet:02X}")?;
             }
-            println!(rt, "")
+            println!(rt; "")
         }
-        Err(refusal) => println!(rt, "  for the screen: {refusal}"),
+        Err(refusal) => println!(rt; "  for the screen: {refusal}"),
     }
 }
 
 // What is sent for a burst that was heard: each due is settled before anything else can fail.
 fn acknowledge(line: &mut Line, text: &[u8], waiting: bool) -> Option<Acknowledgement>
-    ensures after { λ _. ⌜ now (line .exit) .state ≡ KnownLine ⌝ }
-    ensures value { λ r. ⌜ r ≡ cond (calls-for-one (holds-enquiry (now (text .entry))) (is-known (now (line .entry) .state))) (Some (settled waiting)) None ⌝ }
+    ensures after { line.new.state ≡ KnownLine }
+    ensures value { result ≡ (if calls_for_one (holds_enquiry text.now) (is_known line.old.state) then Some (settled waiting) else None) }
 {
     match line.hear(text) {
         Some(due) => {
@@ -168,23 +153,23 @@ fn acknowledge(line: &mut Line, text: &[u8], waiting: bool) -> Option<Acknowledg
 }
 
 // A burst is heard, and a text was read from it.
-fn hear(rt: &LibcRuntime, line: &mut Line, text: &[u8], waiting: bool) -> io::Result<()> {
+fn hear(rt: &HostRuntime, line: &mut Line, text: &[u8], waiting: bool) -> io::Result<()> {
     let sent = acknowledge(line, text, waiting);
     let waits = waits(waiting);
-    println!(rt, "a burst heard, {waits}")?;
+    println!(rt; "a burst heard, {waits}")?;
     show_items(rt, text)?;
     show_screen(rt, text)?;
     match sent {
         Some(sent) => show_acknowledgement(rt, sent)?,
-        None => println!(rt, "  acknowledged: no need")?,
+        None => println!(rt; "  acknowledged: no need")?,
     }
     show_state(rt, line.state())
 }
 
 // The far end answers the second try.
-fn answered(rt: &LibcRuntime) -> io::Result<()> {
+fn answered(rt: &HostRuntime) -> io::Result<()> {
     let mut line = Line::open();
-    println!(rt, "the far end answers")?;
+    println!(rt; "the far end answers")?;
     show_state(rt, line.state())?;
     tick(rt, &mut line, 40, false)?;
     tick(rt, &mut line, 40, true)?;
@@ -196,40 +181,40 @@ fn answered(rt: &LibcRuntime) -> io::Result<()> {
     tick(rt, &mut line, 60000, true)
 }
 
-fn show_call(rt: &LibcRuntime, k: usize, call: &Call) -> io::Result<()> {
+fn show_call(rt: &HostRuntime, k: usize, call: &Call) -> io::Result<()> {
     match call {
         Call::Tick {
             milliseconds,
             waiting,
         } => {
             let waits = waits(*waiting);
-            println!(rt, "call {k}: {milliseconds} ms passed, {waits}")
+            println!(rt; "call {k}: {milliseconds} ms passed, {waits}")
         }
         Call::Hear { text } => {
-            print!(rt, "call {k}: a burst heard,")?;
+            print!(rt; "call {k}: a burst heard,")?;
             show_octets(rt, text)
         }
         Call::Settle { call, waiting } => {
             let waits = waits(*waiting);
-            println!(rt, "call {k}: the due of call {call} settled, {waits}")
+            println!(rt; "call {k}: the due of call {call} settled, {waits}")
         }
     }
 }
 
-fn show_entry(rt: &LibcRuntime, entry: &Entry) -> io::Result<()> {
+fn show_entry(rt: &HostRuntime, entry: &Entry) -> io::Result<()> {
     match entry.answer {
         Answer::Wants(wanted) => show_wanted(rt, wanted)?,
-        Answer::Heard { due: true } => println!(rt, "  a due is given out")?,
-        Answer::Heard { due: false } => println!(rt, "  no due is given out")?,
+        Answer::Heard { due: true } => println!(rt; "  a due is given out")?,
+        Answer::Heard { due: false } => println!(rt; "  no due is given out")?,
         Answer::Settled(sent) => show_acknowledgement(rt, sent)?,
-        Answer::NothingDue => println!(rt, "  nothing is due")?,
+        Answer::NothingDue => println!(rt; "  nothing is due")?,
     }
     show_state(rt, entry.state)
 }
 
 // Settles a due that a list of calls left outstanding, while no text waits.
 fn settle_late(slot: Option<Due>) -> Option<Acknowledgement>
-    ensures { λ r. ⌜ r ≡ cond (isSome slot) (Some (settled false)) None ⌝ }
+    ensures { result ≡ (if is_some slot then Some (settled false) else None) }
 {
     match slot {
         Some(due) => Some(due.settle(false)),
@@ -238,7 +223,7 @@ fn settle_late(slot: Option<Due>) -> Option<Acknowledgement>
 }
 
 // The list of a silent far end, as one replay.
-fn silent(rt: &LibcRuntime) -> io::Result<()> {
+fn silent(rt: &HostRuntime) -> io::Result<()> {
     let mut slots = [None, None, None, None, None, None, None, None, None];
     let mut log = [BLANK; 9];
     let answer = replay(&SILENT, &mut slots, &mut log);
@@ -254,27 +239,27 @@ fn silent(rt: &LibcRuntime) -> io::Result<()> {
         settle_late(h),
         settle_late(i),
     ];
-    println!(rt, "the far end is silent")?;
+    println!(rt; "the far end is silent")?;
     match answer {
         Ok(line) => {
             for (k, (call, entry)) in SILENT.iter().zip(log.iter()).enumerate() {
                 show_call(rt, k, call)?;
                 show_entry(rt, entry)?;
             }
-            println!(rt, "after the calls")?;
+            println!(rt; "after the calls")?;
             for (k, sent) in late.iter().enumerate() {
                 if let Some(sent) = sent {
-                    println!(rt, "  the due of call {k} was outstanding")?;
+                    println!(rt; "  the due of call {k} was outstanding")?;
                     show_acknowledgement(rt, *sent)?;
                 }
             }
             show_state(rt, line.state())
         }
-        Err(refusal) => println!(rt, "  {refusal}"),
+        Err(refusal) => println!(rt; "  {refusal}"),
     }
 }
 
-fn main(rt: LibcRuntime) -> io::Result<()> {
+fn main(rt: HostRuntime) -> io::Result<()> {
     answered(&rt)?;
     silent(&rt)
 }

@@ -1,28 +1,14 @@
 // Calls to a line, one after the other, with the dues that stand outstanding between them.
-ghost use mathlib.Core.Bool.{cond};
-ghost use mathlib.Core.List.{map};
-ghost use mathlib.Core.Path.{_≡_};
-ghost use Prim.Native.Nat.{_+_, _<_, _≤_};
-ghost use lib.ListN.{length, getD, set};
-ghost use Rattle·std.specs.Iters.{counting};
-ghost use Rattle·std.specs.Options.{isSome};
-ghost use Rattle·std.specs.declared.option.Option.the-variants.{None as NoDue};
-ghost use Rattle·refusal.specs.Answer.{after};
-ghost use Rattle·negotiation·specs.declared.history.Answer.the-variants.{Settled as SettledBy, NothingDue as NothingToSettle};
-ghost use Rattle·negotiation·specs.Sent.{settled};
-ghost use Rattle·negotiation·specs.History.{happened, entry-at, slots-after, line-state, dues-given, dues-settled, dues-in, Tries};
-ghost use Rattle·negotiation·specs.Moves.{step-state, step-slots, step-answer, empty-slots, replay-answer};
-use crate::Line;
-use crate::State;
-use crate::StateDebug;
-use crate::StatePartialEq;
-use crate::Wanted;
-use crate::WantedDebug;
-use crate::WantedPartialEq;
-use crate::owing::Acknowledgement;
-use crate::owing::AcknowledgementDebug;
-use crate::owing::AcknowledgementPartialEq;
-use crate::owing::Due;
+ghost use Rattle.std.specs.Prelude.{◌≡◌, ◌+◌, ◌<◌, ◌≤◌, map, length, is_some, if◌then◌else◌, None as NoDue, slice_index_or, slice_set};
+ghost use Rattle.std.specs.List.{range_with_len};
+ghost use Rattle.refusal.specs.Answer.{after};
+ghost use Rattle.negotiation.specs.declared.history.Answer.TheVariants.{Settled as SettledBy, NothingDue as NothingToSettle};
+ghost use Rattle.negotiation.specs.Sent.{settled};
+ghost use Rattle.negotiation.specs.History.{happened, entry_at, slots_after, line_state, dues_given, dues_settled, dues_in, Tries};
+ghost use Rattle.negotiation.specs.Moves.{step_state, step_slots, step_answer, empty_slots, replay_answer};
+
+use crate::owing::{Acknowledgement, Due};
+use crate::{Line, State, Wanted};
 use refusal::Refusal;
 
 // A call to a line, as data.
@@ -58,8 +44,8 @@ pub struct Entry {
 
 // How many slots are empty before the first that holds a due.
 fn empty_slots(slots: &[Option<Due>]) -> usize
-    ensures value { λ r. ⌜ r ≡ empty-slots (now (slots .entry)) ⌝ }
-    ensures within { λ r. ⌜ r ≤ length (now (slots .entry)) ⌝ }
+    ensures value { result ≡ empty_slots slots.now }
+    ensures within { result ≤ length slots.now }
 {
     let mut empty = 0;
     for slot in slots {
@@ -73,8 +59,8 @@ fn empty_slots(slots: &[Option<Due>]) -> usize
 
 // Puts a due, or none, into an empty slot.
 fn put(slots: &mut [Option<Due>], k: usize, due: Option<Due>)
-    requires { ⌜ k < length (now slots) ⌝ ∗ ⌜ getD (now slots) k NoDue ≡ NoDue ⌝ }
-    ensures { λ _. ⌜ now (slots .exit) ≡ set (now (slots .entry)) k due ⌝ }
+    requires { (k < length slots.old) × (slice_index_or slots.old k NoDue ≡ NoDue) }
+    ensures { slots.new ≡ slice_set slots.old k due }
 {
     match std::mem::replace(&mut slots[k], due) {
         None => {}
@@ -84,8 +70,8 @@ fn put(slots: &mut [Option<Due>], k: usize, due: Option<Due>)
 
 // Settles the due that stands in a slot.
 fn settle(slots: &mut [Option<Due>], k: usize, waiting: bool) -> Answer
-    ensures after { λ _. ⌜ now (slots .exit) ≡ set (now (slots .entry)) k NoDue ⌝ }
-    ensures value { λ r. ⌜ r ≡ cond (isSome (getD (now (slots .entry)) k NoDue)) (SettledBy (settled waiting)) NothingToSettle ⌝ }
+    ensures after { slots.new ≡ slice_set slots.old k NoDue }
+    ensures value { result ≡ (if is_some (slice_index_or slots.old k NoDue) then SettledBy (settled waiting) else NothingToSettle) }
 {
     if k >= slots.len() {
         return Answer::NothingDue;
@@ -98,10 +84,10 @@ fn settle(slots: &mut [Option<Due>], k: usize, waiting: bool) -> Answer
 
 // Makes call k; slot k takes the due that it gives out.
 fn make_call(line: &mut Line, slots: &mut [Option<Due>], k: usize, call: &Call) -> Answer
-    requires { ⌜ k < length (now slots) ⌝ ∗ ⌜ getD (now slots) k NoDue ≡ NoDue ⌝ }
-    ensures state { λ _. ⌜ now (line .exit) .state ≡ step-state (now (line .entry) .state) (now (call .entry)) ⌝ }
-    ensures slots { λ _. ⌜ now (slots .exit) ≡ step-slots (now (line .entry) .state) (now (slots .entry)) k (now (call .entry)) ⌝ }
-    ensures value { λ r. ⌜ r ≡ step-answer (now (line .entry) .state) (now (slots .entry)) (now (call .entry)) ⌝ }
+    requires { (k < length slots.old) × (slice_index_or slots.old k NoDue ≡ NoDue) }
+    ensures state { line.new.state ≡ step_state line.old.state call.now }
+    ensures slots { slots.new ≡ step_slots line.old.state slots.old k call.now }
+    ensures value { result ≡ step_answer line.old.state slots.old call.now }
 {
     match call {
         Call::Tick {
@@ -120,12 +106,12 @@ fn make_call(line: &mut Line, slots: &mut [Option<Due>], k: usize, call: &Call) 
 
 // Makes a list of calls on a line that is opened for it, with a slot and a place of the log for each call.
 fn run(calls: &[Call], slots: &mut [Option<Due>], log: &mut [Entry]) -> Line
-    requires slots { ⌜ length (now slots) ≡ length (now calls) ⌝ }
-    requires empty { ⌜ empty-slots (now slots) ≡ length (now slots) ⌝ }
-    requires log { ⌜ length (now log) ≡ length (now calls) ⌝ }
-    ensures line { λ r. ⌜ r .state ≡ line-state (happened (now (calls .entry))) ⌝ }
-    ensures log { λ _. ⌜ now (log .exit) ≡ map (entry-at (now (calls .entry))) (counting 0 (length (now (calls .entry)))) ⌝ }
-    ensures slots { λ _. ⌜ now (slots .exit) ≡ slots-after (now (calls .entry)) ⌝ }
+    requires slots { length slots.old ≡ length calls.now }
+    requires empty { empty_slots slots.old ≡ length slots.old }
+    requires log { length log.old ≡ length calls.now }
+    ensures line { result.state ≡ line_state (happened calls.now) }
+    ensures log { log.new ≡ map (entry_at calls.now) (range_with_len 0 (length calls.now)) }
+    ensures slots { slots.new ≡ slots_after calls.now }
 {
     let mut line = Line::open();
     for (k, call) in calls.iter().enumerate() {
@@ -141,11 +127,11 @@ fn run(calls: &[Call], slots: &mut [Option<Due>], log: &mut [Entry]) -> Line
 // Opens a line, makes a list of calls on it and hands it back. The first places of `log` hold what each call
 // answered and the state after it; slot k of `slots` holds the due that call k gave out while it is outstanding.
 pub fn replay(calls: &[Call], slots: &mut [Option<Due>], log: &mut [Entry]) -> Result<Line, Refusal>
-    ensures answer { λ r. ⌜ r ≡ replay-answer (now (calls .entry)) (empty-slots (now (slots .entry))) (length (now (log .entry))) ⌝ }
-    ensures log { λ r. ⌜ now (log .exit) ≡ after r (map (entry-at (now (calls .entry))) (counting 0 (length (now (calls .entry))))) (now (log .entry)) ⌝ }
-    ensures slots { λ r. ⌜ now (slots .exit) ≡ after r (slots-after (now (calls .entry))) (now (slots .entry)) ⌝ }
-    ensures dues { λ _. ⌜ dues-given (happened (now (calls .entry))) ≡ dues-settled (happened (now (calls .entry))) + dues-in (slots-after (now (calls .entry))) ⌝ }
-    ensures tries { λ _. ⌜ Tries (now (calls .entry)) ⌝ }
+    ensures answer { result ≡ replay_answer calls.now (empty_slots slots.old) (length log.old) }
+    ensures log { log.new ≡ after result (map (entry_at calls.now) (range_with_len 0 (length calls.now))) log.old }
+    ensures slots { slots.new ≡ after result (slots_after calls.now) slots.old }
+    ensures dues { dues_given (happened calls.now) ≡ dues_settled (happened calls.now) + dues_in (slots_after calls.now) }
+    ensures tries { Tries calls.now }
 {
     let count = calls.len();
     if empty_slots(slots) < count {

@@ -1,29 +1,18 @@
 // Whether the far end has a modem of our kind: the states of a line, and the acknowledgements that it owes.
-ghost use mathlib.Core.Bool.{true};
-ghost use mathlib.Core.Path.{_≡_};
-ghost use Rattle·character.specs.Reader.{holds-enquiry};
-ghost use Rattle·negotiation·specs.declared.State.the-variants.{New as NewLine, Asking as AskingLine, Known as KnownLine};
-ghost use Rattle·negotiation·specs.Dues.{due-if};
-ghost use Rattle·negotiation·specs.Sent.{wanted-octets};
-ghost use Rattle·negotiation·specs.Transitions.{ticked, starts-try, wanted, is-known, calls-for-one};
-use character::ENQUIRY;
-use character::holds_enquiry;
+ghost use Rattle.std.specs.Prelude.{◌≡◌, true};
+ghost use Rattle.character.specs.Reader.{holds_enquiry};
+ghost use Rattle.negotiation.specs.declared.State.TheVariants.{New as NewLine, Asking as AskingLine, Known as KnownLine};
+ghost use Rattle.negotiation.specs.Dues.{due_if};
+ghost use Rattle.negotiation.specs.Sent.{wanted_octets};
+ghost use Rattle.negotiation.specs.Transitions.{ticked, starts_try, wanted, is_known, calls_for_one};
+
+use character::{ENQUIRY, holds_enquiry};
 
 mod history;
 mod owing;
 
-pub use history::Answer;
-pub use history::AnswerDebug;
-pub use history::AnswerPartialEq;
-pub use history::Call;
-pub use history::Entry;
-pub use history::EntryDebug;
-pub use history::EntryPartialEq;
-pub use history::replay;
-pub use owing::Acknowledgement;
-pub use owing::AcknowledgementDebug;
-pub use owing::AcknowledgementPartialEq;
-pub use owing::Due;
+pub use history::{Answer, Call, Entry, replay};
+pub use owing::{Acknowledgement, Due};
 
 // How many milliseconds a try lasts.
 pub const TRY_MILLISECONDS: u32 = 1320;
@@ -54,7 +43,7 @@ pub enum Wanted {
 impl Wanted {
     // The octets to send: an enquiry burst is the enquiry alone, without the text that waits.
     pub fn octets(self) -> &'static [u8]
-        ensures { λ r. ⌜ now r ≡ wanted-octets self ⌝ }
+        ensures { result.now ≡ wanted_octets self }
     {
         match self {
             Wanted::Nothing => &[],
@@ -72,22 +61,22 @@ pub struct Line {
 impl Line {
     // A line on which nothing was sent or heard.
     pub fn open() -> Line
-        ensures { λ r. ⌜ r .state ≡ NewLine ⌝ }
+        ensures { result.state ≡ NewLine }
     {
         Line { state: State::New }
     }
 
     // What the line knows of its far end.
     pub fn state(&self) -> State
-        ensures { λ r. ⌜ r ≡ now (self .entry) .state ⌝ }
+        ensures { result ≡ self.now.state }
     {
         self.state
     }
 
     // Some milliseconds have passed, and text waits or not. Says whether an enquiry burst is wanted.
     pub fn tick(&mut self, milliseconds: u32, waiting: bool) -> Wanted
-        ensures after { λ _. ⌜ now (self .exit) .state ≡ ticked (now (self .entry) .state) milliseconds waiting ⌝ }
-        ensures value { λ r. ⌜ r ≡ wanted (starts-try (now (self .entry) .state) milliseconds waiting) ⌝ }
+        ensures after { self.new.state ≡ ticked self.old.state milliseconds waiting }
+        ensures value { result ≡ wanted (starts_try self.old.state milliseconds waiting) }
     {
         match self.state {
             State::New if waiting => self.start(1),
@@ -116,8 +105,8 @@ impl Line {
 
     // Starts a try.
     fn start(&mut self, attempt: u8) -> Wanted
-        ensures after { λ _. ⌜ now (self .exit) .state ≡ AskingLine attempt 0 ⌝ }
-        ensures value { λ r. ⌜ r ≡ wanted true ⌝ }
+        ensures after { self.new.state ≡ AskingLine attempt 0 }
+        ensures value { result ≡ wanted true }
     {
         self.state = State::Asking {
             attempt,
@@ -129,8 +118,8 @@ impl Line {
     // A burst was heard, and `text` was read from it: decoded octets, not elements or values.
     // Gives out the acknowledgement that the burst calls for, if it does.
     pub fn hear(&mut self, text: &[u8]) -> Option<Due>
-        ensures after { λ _. ⌜ now (self .exit) .state ≡ KnownLine ⌝ }
-        ensures value { λ r. ⌜ r ≡ due-if (calls-for-one (holds-enquiry (now (text .entry))) (is-known (now (self .entry) .state))) ⌝ }
+        ensures after { self.new.state ≡ KnownLine }
+        ensures value { result ≡ due_if (calls_for_one (holds_enquiry text.now) (is_known self.old.state)) }
     {
         let first = self.state != State::Known;
         self.state = State::Known;

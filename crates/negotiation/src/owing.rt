@@ -1,6 +1,7 @@
 // The acknowledgements that a line owes for what it heard.
-ghost use mathlib.Core.Path.{_≡_};
-ghost use Rattle·negotiation·specs.Sent.{settled, acknowledging-octets};
+ghost use Rattle.std.specs.Prelude.{◌≡◌};
+ghost use Rattle.negotiation.specs.Sent.{settled, acknowledging_octets};
+
 use character::IDLE;
 
 // What an acknowledgement is made of.
@@ -13,7 +14,7 @@ pub enum Acknowledgement {
 impl Acknowledgement {
     // The octets to send: the idle, or the text that waits.
     pub fn octets<'a>(self, text: &'a [u8]) -> &'a [u8]
-        ensures { λ r. ⌜ now r ≡ acknowledging-octets self (now (text .entry)) ⌝ }
+        ensures { result.now ≡ acknowledging_octets self text.now }
     {
         match self {
             Acknowledgement::Idle => &[IDLE],
@@ -32,7 +33,7 @@ pub struct Due {
 
 impl Drop for Due {
     fn drop(self)
-        requires { ⌜ ⊥ ⌝ }
+        requires { ⊥ }
     {
         let Due { owed: () } = self;
     }
@@ -41,14 +42,14 @@ impl Drop for Due {
 impl Due {
     // A due for a burst that calls for an acknowledgement.
     pub(crate) fn give() -> Due
-        ensures { λ r. ⌜ r ≡ record { owed = tt; unsettled = tt } ⌝ }
+        ensures { result ≡ record { owed = tt; unsettled = tt } }
     {
         Due { owed: () }
     }
 
     // Settles the due: the text that waits acknowledges, else an idle does.
     pub fn settle(self, waiting: bool) -> Acknowledgement
-        ensures { λ r. ⌜ r ≡ settled waiting ⌝ }
+        ensures { result ≡ settled waiting }
     {
         let Due { owed: () } = self;
         if waiting {

@@ -1,24 +1,7 @@
 // A line at the edges of its rules.
-use crate::Acknowledgement;
-use crate::AcknowledgementDebug;
-use crate::AcknowledgementPartialEq;
-use crate::Answer;
-use crate::Call;
-use crate::Due;
-use crate::Entry;
-use crate::EntryDebug;
-use crate::EntryPartialEq;
-use crate::Line;
-use crate::State;
-use crate::StateDebug;
-use crate::StatePartialEq;
-use crate::Wanted;
-use crate::WantedDebug;
-use crate::WantedPartialEq;
-use crate::replay;
+use crate::{Acknowledgement, Answer, Call, Due, Entry, Line, State, Wanted, replay};
 use refusal::Refusal;
-use refusal::RefusalDebug;
-use std::test::*;
+use std::test::Fail;
 // Milliseconds, whether text waits, then what is wanted and the state after it.
 const TICKS: [(u32, bool, Wanted, State); 12] = [
     (5000, false, Wanted::Nothing, State::New),
@@ -100,13 +83,12 @@ const TICKS: [(u32, bool, Wanted, State); 12] = [
 ];
 
 #[test]
-fn ticks() -> Result<(), Fail> {
+fn ticks(rt: HostRuntime) {
     let mut line = Line::open();
     for (milliseconds, waiting, wanted, state) in TICKS {
-        check_eq(line.tick(milliseconds, waiting), wanted)?;
-        check_eq(line.state(), state)?;
+        assert_eq!(rt; line.tick(milliseconds, waiting), wanted);
+        assert_eq!(rt; line.state(), state);
     }
-    Ok(())
 }
 
 const BLANK: Entry = Entry {
@@ -141,16 +123,16 @@ fn ended(slot: Option<Due>) -> Option<Acknowledgement> {
 }
 
 #[test]
-fn replays() -> Result<(), Fail> {
+fn replays(rt: HostRuntime) -> Result<(), Fail> {
     let mut slots = [None, None, None, None, None, None];
     let mut log = [BLANK; 7];
     let line = replay(&CALLS, &mut slots, &mut log);
     let [a, b, c, d, e, f] = slots;
     let left = [ended(a), ended(b), ended(c), ended(d), ended(e), ended(f)];
-    check_eq(left[1], Some(Acknowledgement::Idle))?;
-    check_eq(left[3], None)?;
-    check_eq(line?.state(), State::Known)?;
-    check_eq(
+    assert_eq!(rt; left[1], Some(Acknowledgement::Idle));
+    assert_eq!(rt; left[3], None);
+    assert_eq!(rt; line?.state(), State::Known);
+    assert_eq!(rt;
         log[0],
         Entry {
             answer: Answer::Wants(Wanted::EnquiryBurst),
@@ -158,8 +140,8 @@ fn replays() -> Result<(), Fail> {
                 attempt: 1,
                 milliseconds: 0,
             },
-        },
-    )?;
+        }
+    );
     let answers = [
         Answer::Heard { due: true },
         Answer::Heard { due: false },
@@ -168,21 +150,22 @@ fn replays() -> Result<(), Fail> {
         Answer::NothingDue,
     ];
     for (k, answer) in answers.iter().enumerate() {
-        check_eq(
+        assert_eq!(rt;
             log[k + 1],
             Entry {
                 answer: *answer,
                 state: State::Known,
-            },
-        )?;
+            }
+        );
     }
-    check_eq(log[6], BLANK)
+    assert_eq!(rt; log[6], BLANK);
+    Ok(())
 }
 
 #[test]
-fn octets() -> Result<(), Fail> {
-    check_eq(Wanted::Nothing.octets().len(), 0)?;
-    check_eq(Wanted::EnquiryBurst.octets(), &[0x05])?;
-    check_eq(Acknowledgement::Idle.octets(b"GA"), &[0x16])?;
-    check_eq(Acknowledgement::Text.octets(b"GA"), b"GA")
+fn octets(rt: HostRuntime) {
+    assert_eq!(rt; Wanted::Nothing.octets().len(), 0);
+    assert_eq!(rt; Wanted::EnquiryBurst.octets(), &[0x05]);
+    assert_eq!(rt; Acknowledgement::Idle.octets(b"GA"), &[0x16]);
+    assert_eq!(rt; Acknowledgement::Text.octets(b"GA"), b"GA");
 }

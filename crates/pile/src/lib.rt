@@ -1,12 +1,11 @@
 // Two stages in series, which again are a stage: the elements that leave the lower one enter the upper one.
-ghost use mathlib.Core.Path.{_≡_};
-ghost use Rattle·stage.specs.Piled.{piled, piled-markers, raised-answer, Enters};
+ghost use Rattle.std.specs.Prelude.{◌≡◌};
+ghost use Rattle.stage.specs.Piled.{piled, piled_markers, raised_answer, Enters};
+ghost use Rattle.stage.specs.Homes.{piled_homes};
+ghost use Rattle.std.proofs.Common.{rules};
+
 use refusal::Refusal;
-use stage::Content;
-use stage::ContentNot;
-use stage::MarkedStage;
-use stage::Marker;
-use stage::Stage;
+use stage::{Content, MarkedStage, Marker, Stage};
 
 // The elements that leave `lower` enter `upper`.
 #[derive(Drop)]
@@ -18,21 +17,25 @@ pub struct Pile<L, U> {
 impl<L: Stage, U: Stage> Pile<L, U> {
     // The pile of two stages.
     pub fn new(lower: L, upper: U) -> Pile<L, U>
-        ensures value { λ r. ⌜ (r .lower ≡ lower) × (r .upper ≡ upper) ⌝ }
-        ensures enters { λ _. ⌜ Enters (L·Stage .meaning lower) (U·Stage .meaning upper) ⌝ }
+        ensures value { (result.lower ≡ lower) × (result.upper ≡ upper) }
+        ensures enters { Enters (L.Stage.meaning lower) (U.Stage.meaning upper) }
     {
         Pile { lower, upper }
     }
 }
 
-pub impl<L: Stage, U: Stage> Stage for Pile<L, U> as PileStage {
-    ghost takes = { λ s. piled (L·Stage .meaning (s .lower)) (U·Stage .meaning (s .upper)) .takes };
+impl<L: Stage, U: Stage> Stage for Pile<L, U> {
+    ghost takes = { λ s. (piled (L.Stage.meaning s.lower) (U.Stage.meaning s.upper)).takes };
 
-    ghost size = { λ s. piled (L·Stage .meaning (s .lower)) (U·Stage .meaning (s .upper)) .size };
+    ghost size = { λ s. (piled (L.Stage.meaning s.lower) (U.Stage.meaning s.upper)).size };
 
-    ghost at = { λ s. piled (L·Stage .meaning (s .lower)) (U·Stage .meaning (s .upper)) .at };
+    ghost at = { λ s. (piled (L.Stage.meaning s.lower) (U.Stage.meaning s.upper)).at };
 
-    ghost meaning = { λ s. piled (L·Stage .meaning (s .lower)) (U·Stage .meaning (s .upper)) };
+    ghost meaning = { λ s. piled (L.Stage.meaning s.lower) (U.Stage.meaning s.upper) };
+
+    ghost whole = { Prim.search rules };
+
+    ghost homes = { λ s. piled_homes (L.Stage.meaning s.lower) (U.Stage.meaning s.upper) (L.Stage.homes s.lower) (U.Stage.homes s.upper) };
 
     fn length(&self, n: usize) -> Result<usize, Refusal> {
         self.upper.length(self.lower.length(n)?)
@@ -56,7 +59,7 @@ pub impl<L: Stage, U: Stage> Stage for Pile<L, U> as PileStage {
 
 // A marker among the elements that enter a stage, as it leaves: at its home, inverted where the stage inverts.
 fn raised<S: Stage>(stage: &S, n: usize, marker: Marker) -> Result<Marker, Refusal>
-    ensures { λ r. ⌜ r ≡ raised-answer (S·Stage .meaning (now (stage .entry))) n marker ⌝ }
+    ensures { result ≡ raised_answer (S.Stage.meaning stage.now) n marker }
 {
     let place = stage.home(n, marker.place)?;
     let bit = match stage.content(n, place)? {
@@ -66,8 +69,8 @@ fn raised<S: Stage>(stage: &S, n: usize, marker: Marker) -> Result<Marker, Refus
     Ok(Marker { place, bit })
 }
 
-pub impl<L: MarkedStage, U: MarkedStage> MarkedStage for Pile<L, U> as PileMarkedStage {
-    ghost markers = { λ s. piled-markers (L·Stage .meaning (s .lower)) (U·Stage .meaning (s .upper)) (L·MarkedStage .markers (s .lower)) (U·MarkedStage .markers (s .upper)) };
+impl<L: MarkedStage, U: MarkedStage> MarkedStage for Pile<L, U> {
+    ghost markers = { λ s. piled_markers (L.Stage.meaning s.lower) (U.Stage.meaning s.upper) (L.MarkedStage.markers s.lower) (U.MarkedStage.markers s.upper) };
 
     fn marker_count(&self, n: usize) -> Result<usize, Refusal> {
         let middle = self.lower.length(n)?;

@@ -1,25 +1,17 @@
 // Reading: a burst among what was heard, through a pile, as soft bits for the trellis.
-ghost use mathlib.Core.Path.{_≡_};
-ghost use mathlib.Core.Bool.{true, false};
-ghost use Prim.Native.Nat.{_≤_, _*_};
-ghost use denote.Ref.{now};
-ghost use lib.Dec.{T};
-ghost use lib.ListN.{length};
-ghost use Rattle·std.specs.Results.{isOk};
-ghost use Rattle·std.specs.declared.result.Result.the-variants.{Ok};
-ghost use Rattle·refusal.specs.Answer.{after};
-ghost use Rattle·stage.specs.declared.Element.the-variants.{Zero, One};
-ghost use Rattle·stage.specs.Elements.{element-of};
-ghost use Rattle·stage.specs.Piled.{bit-through};
-ghost use Rattle·trellis.specs.Search.{steps-of, UsesFirst};
-ghost use Rattle·reading·specs.Reading.{gap, nearest-string, nearest-burst-answer};
-ghost use Rattle·reading·specs.Soft.{fixed-gap, fixed-part, soft-cost};
+ghost use Rattle.std.specs.Prelude.{◌≡◌, ◌*◌, ◌≤◌, true, false, T, length, is_ok, Ok};
+ghost use Rattle.refusal.specs.Answer.{after};
+ghost use Rattle.stage.specs.declared.Element.TheVariants.{Zero, One};
+ghost use Rattle.stage.specs.Elements.{element_of};
+ghost use Rattle.stage.specs.Piled.{bit_through};
+ghost use Rattle.trellis.specs.Search.{steps_of, UsesFirst};
+ghost use Rattle.reading.specs.Reading.{gap, nearest_string, nearest_burst_answer};
+ghost use Rattle.reading.specs.Soft.{fixed_gap, fixed_part, soft_cost};
+
 use code::coded_count;
 use refusal::Refusal;
-use stage::Content;
-use stage::Stage;
-use trellis::SoftBits;
-use trellis::nearest_text;
+use stage::{Content, Stage};
+use trellis::{SoftBits, nearest_text};
 use values::Values;
 
 // The value of a 1 at full strength.
@@ -27,8 +19,8 @@ const FULL: i16 = 127;
 
 // How far a value lies from a 0 and from a 1 at full strength.
 fn gaps(value: i8) -> (u16, u16)
-    ensures zero { λ r. ⌜ r .0 ≡ gap Zero value ⌝ }
-    ensures one { λ r. ⌜ r .1 ≡ gap One value ⌝ }
+    ensures zero { result.0 ≡ gap Zero value }
+    ensures one { result.1 ≡ gap One value }
 {
     let value = i16::from(value);
     (FULL.abs_diff(-value), FULL.abs_diff(value))
@@ -36,8 +28,8 @@ fn gaps(value: i8) -> (u16, u16)
 
 // How far a value lies from a 0 and from a 1 that entered where the pile has this content.
 fn carried_gaps(content: Content, value: i8) -> (u16, u16)
-    ensures zero { λ r. ⌜ r .0 ≡ gap (element-of (bit-through false content)) value ⌝ }
-    ensures one { λ r. ⌜ r .1 ≡ gap (element-of (bit-through true content)) value ⌝ }
+    ensures zero { result.0 ≡ gap (element_of (bit_through false content)) value }
+    ensures one { result.1 ≡ gap (element_of (bit_through true content)) value }
 {
     let (zero, one) = gaps(value);
     match content {
@@ -55,8 +47,8 @@ struct Through<'v, 'p, V, S> {
     n: usize,
 }
 
-impl<V: Values, S: Stage> SoftBits for Through<'_, '_, V, S> as ThroughSoftBits {
-    ghost cost = { λ s. soft-cost (V·Values .standing (now (s .values))) (s .start) (S·Stage .meaning (now (s .pile))) (s .n) };
+impl<V: Values, S: Stage> SoftBits for Through<'_, '_, V, S> {
+    ghost cost = { λ s. soft_cost (V.Values.standing s.values.now) s.start (S.Stage.meaning s.pile.now) s.n };
 
     // The home of coded bit i says where it was heard, and the content there whether it was inverted.
     fn costs(&self, i: usize) -> (u16, u16) {
@@ -72,7 +64,7 @@ impl<V: Values, S: Stage> SoftBits for Through<'_, '_, V, S> as ThroughSoftBits 
 
 // The gap at a place that holds a fixed bit; a carried element and a mute add nothing.
 fn fixed_gap(content: Content, value: i8) -> u16
-    ensures { λ r. ⌜ r ≡ fixed-gap content value ⌝ }
+    ensures { result ≡ fixed_gap content value }
 {
     let (zero, one) = gaps(value);
     match content {
@@ -89,9 +81,9 @@ fn fixed_part<V: Values, S: Stage>(
     pile: &S,
     n: usize,
 ) -> Result<u32, Refusal>
-    requires { ⌜ T (S·Stage .meaning (now pile) .takes n) ⌝ }
-    ensures value { λ r. ⌜ r ≡ Ok (fixed-part (V·Values .standing (now (values .entry))) start (S·Stage .meaning (now (pile .entry))) n) ⌝ }
-    ensures most { λ _. ⌜ fixed-part (V·Values .standing (now (values .entry))) start (S·Stage .meaning (now (pile .entry))) n ≤ 32768 * 65535 ⌝ }
+    requires { T ((S.Stage.meaning pile.now).takes n) }
+    ensures value { result ≡ Ok (fixed_part (V.Values.standing values.now) start (S.Stage.meaning pile.now) n) }
+    ensures most { fixed_part (V.Values.standing values.now) start (S.Stage.meaning pile.now) n ≤ 32768 * 65535 }
 {
     let mut sum = 0;
     for place in 0..pile.length(n)? {
@@ -111,10 +103,10 @@ pub fn nearest_burst<V: Values, S: Stage>(
     text: &mut [u8],
     work: &mut [u16],
 ) -> Result<u32, Refusal>
-    ensures answer { λ r. ⌜ r ≡ nearest-burst-answer (V·Values .standing (now (values .entry))) start (S·Stage .meaning (now (pile .entry)))
-        m (length (now (text .entry))) (length (now (work .entry))) ⌝ }
-    ensures text { λ r. ⌜ now (text .exit) ≡ after r (nearest-string (V·Values .standing (now (values .entry))) start (S·Stage .meaning (now (pile .entry))) m) (now (text .entry)) ⌝ }
-    ensures working { λ r. ⌜ UsesFirst (steps-of m) (isOk r) (now (work .entry)) (now (work .exit)) ⌝ }
+    ensures answer { result ≡ nearest_burst_answer (V.Values.standing values.now) start (S.Stage.meaning pile.now)
+        m (length text.old) (length work.old) }
+    ensures text { text.new ≡ after result (nearest_string (V.Values.standing values.now) start (S.Stage.meaning pile.now) m) text.old }
+    ensures working { UsesFirst (steps_of m) (is_ok result) work.old work.new }
 {
     let n = coded_count(m)?;
     pile.length(n)?;

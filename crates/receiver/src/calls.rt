@@ -1,33 +1,25 @@
 // The calls of a receiver. Each answers what the rules say, and a refused one leaves everything as found.
-ghost use mathlib.Core.Path.{_≡_};
-ghost use mathlib.Core.Bool.{false};
-ghost use Prim.Native.Nat.{_+_, _-_, _≤_};
-ghost use denote.Ref.{name};
-ghost use lib.IntN.{pos};
-ghost use lib.ListN.{length, replicate};
-ghost use Rattle·std.specs.Results.{isOk};
-ghost use Rattle·refusal.specs.Answer.{after};
-ghost use Rattle·refusal.specs.Counting.{any};
-ghost use Rattle·values.specs.Values.{out-of-range};
-ghost use Rattle·std.specs.Vec.{made};
-ghost use Rattle·trellis.specs.Search.{steps-of, UsesFirst};
-ghost use Rattle·receiver·specs.State.{standing, opened, hear-answer, lose-answer, find-answer, begins, hears, loses, finds};
-ghost use Rattle·receiver·specs.Held.{memory-of, room, held, Follows, read-of, string-of, Reads, written};
-use crate::memory::GREATEST_CAPACITY;
-use crate::memory::Receiver;
+ghost use Rattle.std.specs.Prelude.{◌≡◌, ◌+◌, ◌-◌, ◌≤◌, false, length, replicate, pos, is_ok, IfOk};
+ghost use Rattle.refusal.specs.Answer.{after};
+ghost use Rattle.refusal.specs.Counting.{any};
+ghost use Rattle.values.specs.Values.{out_of_range};
+ghost use Rattle.trellis.specs.Search.{steps_of, UsesFirst};
+ghost use Rattle.receiver.specs.State.{standing, opened, hear_answer, lose_answer, find_answer, begins, hears, loses, finds};
+ghost use Rattle.receiver.specs.Held.{memory_of, room, held, Follows, read_of, string_of, Reads, written};
+
+use crate::memory::{GREATEST_CAPACITY, Receiver};
 use code::coded_count;
 use fit::best_start;
 use reading::nearest_burst;
 use refusal::Refusal;
-use stage::MarkedStage;
-use stage::Stage;
+use stage::{MarkedStage, Stage};
 use values::Values;
 
 // What counts at a place is the value heard there.
-impl Values for Receiver<'_> as ReceiverValues {
+impl Values for Receiver<'_> {
     ghost standing = { λ r. standing (held r) };
 
-    ghost sound = { λ r. r .sound };
+    ghost sound = { λ r. r.sound };
 
     fn count(&self) -> usize {
         self.count
@@ -45,9 +37,9 @@ impl Values for Receiver<'_> as ReceiverValues {
 impl<'a> Receiver<'a> {
     // A receiver over this memory, with no value heard.
     pub fn open(values: &'a mut [i8]) -> Receiver<'a>
-        ensures state { λ r. ⌜ held r ≡ opened ⌝ }
-        ensures memory { λ r. ⌜ memory-of r ≡ now (values .entry) ⌝ }
-        ensures same { λ r. ⌜ name (r .values) ≡ name (values .entry) ⌝ }
+        ensures state { held result ≡ opened }
+        ensures memory { memory_of result ≡ values.old }
+        ensures same { result.values.ghost_name ≡ values.entry.ghost_name }
     {
         Receiver {
             values,
@@ -58,7 +50,7 @@ impl<'a> Receiver<'a> {
 
     // Forgets every value.
     pub fn begin(&mut self)
-        ensures { λ _. ⌜ Follows (now (self .entry)) begins (now (self .exit)) ⌝ }
+        ensures { Follows self.old begins self.new }
     {
         self.count = 0;
         self.start = 0;
@@ -66,19 +58,19 @@ impl<'a> Receiver<'a> {
 
     // How many more values can be heard.
     fn free(&self) -> usize
-        ensures { λ r. ⌜ r + now (self .entry) .count ≡ room (now (self .entry)) ⌝ }
+        ensures { result + self.now.count ≡ room self.now }
     {
         self.values.len().min(GREATEST_CAPACITY) - self.count
     }
 
     // Puts values behind those that stand.
     fn append(&mut self, heard: &[i8])
-        requires fits { ⌜ now self .count + length (now heard) ≤ room (now self) ⌝ }
-        requires good { ⌜ any out-of-range (now heard) ≡ false ⌝ }
-        ensures memory { λ _. ⌜ memory-of (now (self .exit)) ≡ written (memory-of (now (self .entry))) (now (self .entry) .count) (now (heard .entry)) ⌝ }
-        ensures count { λ _. ⌜ now (self .exit) .count ≡ now (self .entry) .count + length (now (heard .entry)) ⌝ }
-        ensures start { λ _. ⌜ now (self .exit) .start ≡ now (self .entry) .start ⌝ }
-        ensures same { λ _. ⌜ name (now (self .exit) .values) ≡ name (now (self .entry) .values) ⌝ }
+        requires fits { self.old.count + length heard.now ≤ room self.old }
+        requires good { any out_of_range heard.now ≡ false }
+        ensures memory { memory_of self.new ≡ written (memory_of self.old) self.old.count heard.now }
+        ensures count { self.new.count ≡ self.old.count + length heard.now }
+        ensures start { self.new.start ≡ self.old.start }
+        ensures same { self.new.values.ghost_name ≡ self.old.values.ghost_name }
     {
         let count = self.count;
         for i in 0..heard.len() {
@@ -89,8 +81,8 @@ impl<'a> Receiver<'a> {
 
     // Appends values, or none of them.
     pub fn hear(&mut self, heard: &[i8]) -> Result<(), Refusal>
-        ensures answer { λ r. ⌜ r ≡ hear-answer (room (now (self .entry))) (held (now (self .entry)) .values) (now (heard .entry)) ⌝ }
-        ensures after { λ _. ⌜ Follows (now (self .entry)) (hears (now (heard .entry))) (now (self .exit)) ⌝ }
+        ensures answer { result ≡ hear_answer (room self.old) (held self.old).values heard.now }
+        ensures after { Follows self.old (hears heard.now) self.new }
     {
         for value in heard {
             if *value == i8::MIN {
@@ -106,11 +98,11 @@ impl<'a> Receiver<'a> {
 
     // Sets n values from a place on to 0.
     fn erase(&mut self, place: usize, n: usize)
-        requires { ⌜ place + n ≤ now self .count ⌝ }
-        ensures memory { λ _. ⌜ memory-of (now (self .exit)) ≡ written (memory-of (now (self .entry))) place (replicate n (pos 0)) ⌝ }
-        ensures count { λ _. ⌜ now (self .exit) .count ≡ now (self .entry) .count ⌝ }
-        ensures start { λ _. ⌜ now (self .exit) .start ≡ now (self .entry) .start ⌝ }
-        ensures same { λ _. ⌜ name (now (self .exit) .values) ≡ name (now (self .entry) .values) ⌝ }
+        requires { place + n ≤ self.old.count }
+        ensures memory { memory_of self.new ≡ written (memory_of self.old) place (replicate n (pos 0)) }
+        ensures count { self.new.count ≡ self.old.count }
+        ensures start { self.new.start ≡ self.old.start }
+        ensures same { self.new.values.ghost_name ≡ self.old.values.ghost_name }
     {
         for i in 0..n {
             self.values[place + i] = 0;
@@ -119,8 +111,8 @@ impl<'a> Receiver<'a> {
 
     // Sets n values from a place on to 0: nothing is known of them.
     pub fn lose(&mut self, place: usize, n: usize) -> Result<(), Refusal>
-        ensures answer { λ r. ⌜ r ≡ lose-answer (held (now (self .entry)) .values) place n ⌝ }
-        ensures after { λ _. ⌜ Follows (now (self .entry)) (loses place n) (now (self .exit)) ⌝ }
+        ensures answer { result ≡ lose_answer (held self.old).values place n }
+        ensures after { Follows self.old (loses place n) self.new }
     {
         if place > self.count || n > self.count - place {
             return Err(Refusal::NoSuchPlace);
@@ -132,8 +124,8 @@ impl<'a> Receiver<'a> {
     // Finds a burst of m octets through a marked pile: sets the start to the earliest of the best starts, and returns it
     // with the fit there.
     pub fn find<M: MarkedStage>(&mut self, pile: &M, m: usize) -> Result<(usize, i32), Refusal>
-        ensures answer { λ r. ⌜ r ≡ find-answer (standing (held (now (self .entry)))) (M·Stage .meaning (now (pile .entry))) (M·MarkedStage .markers (now (pile .entry))) m ⌝ }
-        ensures after { λ _. ⌜ Follows (now (self .entry)) (finds (M·Stage .meaning (now (pile .entry))) (M·MarkedStage .markers (now (pile .entry))) m) (now (self .exit)) ⌝ }
+        ensures answer { result ≡ find_answer (standing (held self.old)) (M.Stage.meaning pile.now) (M.MarkedStage.markers pile.now) m }
+        ensures after { Follows self.old (finds (M.Stage.meaning pile.now) (M.MarkedStage.markers pile.now) m) self.new }
     {
         let n = coded_count(m)?;
         let best = best_start(self, pile, n)?;
@@ -150,10 +142,10 @@ impl<'a> Receiver<'a> {
         text: &mut [u8],
         work: &mut [u16],
     ) -> Result<u32, Refusal>
-        ensures answer { λ r. ⌜ r ≡ read-of (now (self .entry)) (S·Stage .meaning (now (pile .entry))) m (length (now (text .entry))) (length (now (work .entry))) ⌝ }
-        ensures text { λ r. ⌜ now (text .exit) ≡ after r (string-of (now (self .entry)) (S·Stage .meaning (now (pile .entry))) m) (now (text .entry)) ⌝ }
-        ensures working { λ r. ⌜ UsesFirst (steps-of m) (isOk r) (now (work .entry)) (now (work .exit)) ⌝ }
-        ensures nearest { λ r. ⌜ made r (Reads (now (self .entry)) (S·Stage .meaning (now (pile .entry))) m) ⌝ }
+        ensures answer { result ≡ read_of self.now (S.Stage.meaning pile.now) m (length text.old) (length work.old) }
+        ensures text { text.new ≡ after result (string_of self.now (S.Stage.meaning pile.now) m) text.old }
+        ensures working { UsesFirst (steps_of m) (is_ok result) work.old work.new }
+        ensures nearest { IfOk result (Reads self.now (S.Stage.meaning pile.now) m) }
     {
         let length = pile.length(coded_count(m)?)?;
         if self.start > self.count || length > self.count - self.start {

@@ -2,5 +2,4 @@
 mod calls;
 mod memory;
 
-pub use memory::GREATEST_CAPACITY;
-pub use memory::Receiver;
+pub use memory::{GREATEST_CAPACITY, Receiver};

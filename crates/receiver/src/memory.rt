@@ -1,11 +1,7 @@
 // The receiver itself, over lent value memory.
-ghost use mathlib.Core.Path.{_≡_};
-ghost use mathlib.Core.Bool.{false};
-ghost use Prim.Native.Nat.{_≤_, min};
-ghost use lib.ListN.{length, take};
-ghost use denote.Ref.{now};
-ghost use Rattle·refusal.specs.Counting.{any};
-ghost use Rattle·values.specs.Values.{out-of-range};
+ghost use Rattle.std.specs.Prelude.{◌≡◌, ◌≤◌, min, false, length, take};
+ghost use Rattle.refusal.specs.Counting.{any};
+ghost use Rattle.values.specs.Values.{out_of_range};
 
 // The greatest number of values that a receiver holds, however long its memory.
 pub const GREATEST_CAPACITY: usize = 32_768;
@@ -17,7 +13,7 @@ pub struct Receiver<'a> {
     pub(crate) count: usize,
     // where a burst stands
     pub(crate) start: usize,
-    ghost within: { count ≤ min (length (now values)) 32768 },
+    ghost within: { count ≤ min (length values.now) 32768 },
     // none of the values heard is -128
-    ghost sound: { any out-of-range (take count (now values)) ≡ false },
+    ghost sound: { any out_of_range (take count values.now) ≡ false },
 }

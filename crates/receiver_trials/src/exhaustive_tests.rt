@@ -1,14 +1,13 @@
 // One octet through three stages, over many patterns of values: all 256 strings are scored by the plain sum over the
 // places of their bursts.
 use crate::flip::Flip;
-use crate::flip::FlipStage;
 use crate::noise::*;
 use layout::*;
-use pile::PileStage;
 use receiver::Receiver;
 use refusal::*;
 use stage::*;
-use std::test::*;
+use std::process::Abort;
+use std::test::Fail;
 use transmitter::write;
 
 // The length of one octet's burst through the standard pile, the longest of the three.
@@ -83,7 +82,7 @@ fn sum_over_places(burst: &[u8], values: &[i8]) -> i32 {
 
 // The read text and distance are those of the best of all strings, the smaller octet among equals. Returns for how many
 // patterns several strings were equally near.
-fn compare<S: Stage>(pile: &S) -> Result<usize, Fail> {
+fn compare<S: Stage>(rt: &impl Abort, pile: &S) -> Result<usize, Fail> {
     let patterns = patterns();
     let mut bests = [Best {
         octet: 0,
@@ -106,8 +105,8 @@ fn compare<S: Stage>(pile: &S) -> Result<usize, Fail> {
         let mut text = [0u8; 1];
         let mut work = [0u16; 12];
         let distance = receiver.read(pile, 1, &mut text, &mut work)?;
-        check_eq(i32::try_from(distance).ok(), Some(best.distance))?;
-        check_eq(text, [best.octet])?;
+        assert_eq!(rt; i32::try_from(distance).ok(), Some(best.distance));
+        assert_eq!(rt; text, [best.octet]);
         if best.tied {
             ties = ties.saturating_add(1);
         }
@@ -117,8 +116,9 @@ fn compare<S: Stage>(pile: &S) -> Result<usize, Fail> {
 
 // A model apart from this code counts the same ties over these patterns.
 #[test]
-fn all_strings_of_one_octet() -> Result<(), Fail> {
-    check_eq(compare(&standard_pile(USUAL))?, 68)?;
-    check_eq(compare(&Wire)?, 71)?;
-    check_eq(compare(&Flip)?, 75)
+fn all_strings_of_one_octet(rt: HostRuntime) -> Result<(), Fail> {
+    assert_eq!(rt; compare(&rt, &standard_pile(USUAL))?, 68);
+    assert_eq!(rt; compare(&rt, &Wire)?, 71);
+    assert_eq!(rt; compare(&rt, &Flip)?, 75);
+    Ok(())
 }

@@ -1,8 +1,11 @@
 // A small stage for trials, without markers: it inverts every element.
-ghost use Rattle·receiver_trials·specs.Flip.{flip};
+ghost use Rattle.receiver_trials.specs.Flip.{flip};
+ghost use Rattle.stage.proofs.Placed.{placed_homes};
+ghost use Rattle.receiver_trials.specs.FlipLaws.{placed};
+ghost use Rattle.std.proofs.Common.{rules};
+
 use refusal::Refusal;
-use stage::Content;
-use stage::Stage;
+use stage::{Content, Stage};
 
 // The most elements that it takes: the coded bits of two octets, and not of three.
 const MOST_ELEMENTS: usize = 100;
@@ -10,14 +13,18 @@ const MOST_ELEMENTS: usize = 100;
 #[derive(Clone, Copy)]
 pub struct Flip;
 
-pub impl Stage for Flip as FlipStage {
-    ghost takes = { λ _. flip .takes };
+impl Stage for Flip {
+    ghost takes = { λ _. flip.takes };
 
-    ghost size = { λ _. flip .size };
+    ghost size = { λ _. flip.size };
 
-    ghost at = { λ _. flip .at };
+    ghost at = { λ _. flip.at };
 
     ghost meaning = { λ _. flip };
+
+    ghost whole = { Prim.search rules };
+
+    ghost homes = { λ s. placed_homes flip (λ i. i) placed };
 
     fn length(&self, n: usize) -> Result<usize, Refusal> {
         if n > MOST_ELEMENTS {

@@ -1,15 +1,12 @@
 // A list of calls over three stages, finds and reads, refused ones of every number that a receiver gives. The answers
 // were worked out by a model apart from this code, which scores every string of a read by the sum over places.
 use crate::flip::Flip;
-use crate::flip::FlipStage;
 use crate::noise::*;
 use history::*;
 use layout::*;
-use pile::PileMarkedStage;
-use pile::PileStage;
 use refusal::*;
 use stage::*;
-use std::test::*;
+use std::test::Fail;
 use transmitter::write;
 
 // What bursts are found through.
@@ -241,7 +238,7 @@ fn replayed<'c>(
 }
 
 #[test]
-fn finds_and_reads() -> Result<(), Fail> {
+fn finds_and_reads(rt: HostRuntime) -> Result<(), Fail> {
     let expected = [
         Answer::Done,
         Answer::Refused(Refusal::BurstNotHeard),
@@ -308,5 +305,6 @@ fn finds_and_reads() -> Result<(), Fail> {
         &[1i8, -128, 2],
         &mut answers,
     )?;
-    check_eq(answers, expected)
+    assert_eq!(rt; answers, expected);
+    Ok(())
 }

@@ -1,12 +1,10 @@
 // Long texts with noise, found and read back.
 use crate::noise::*;
 use layout::*;
-use pile::PileMarkedStage;
-use pile::PileStage;
 use receiver::Receiver;
 use refusal::*;
 use stage::*;
-use std::test::*;
+use std::test::Fail;
 use transmitter::write;
 
 // How many values of noise stand in front of a burst.
@@ -54,7 +52,7 @@ fn noisy(
 // Noise of exactly 15 units, a wrong value counting as two and a lost one as one: the text comes back. A wrong value is
 // 254 away from what was sent, and a lost one 127.
 #[test]
-fn fifteen_units() -> Result<(), Fail> {
+fn fifteen_units(rt: HostRuntime) -> Result<(), Fail> {
     let mut sent = [0u8; 240];
     let mut octet = 0x35u8;
     for place in sent.iter_mut() {
@@ -75,11 +73,11 @@ fn fifteen_units() -> Result<(), Fail> {
         let mut memory = [0i8; 9_400];
         let mut receiver = Receiver::open(&mut memory);
         receiver.hear(&noisy(&sent, first, step, wrong, lost)?)?;
-        check_eq(receiver.find(&pile, 240), Ok((FRONT, FULL_FIT)))?;
+        assert_eq!(rt; receiver.find(&pile, 240), Ok((FRONT, FULL_FIT)));
         let mut text = [0u8; 240];
         let mut work = [0u16; 1_924];
-        check_eq(receiver.read(&pile, 240, &mut text, &mut work), Ok(1905))?;
-        check_eq(text, sent)?;
+        assert_eq!(rt; receiver.read(&pile, 240, &mut text, &mut work), Ok(1905));
+        assert_eq!(rt; text, sent);
     }
     Ok(())
 }
@@ -87,7 +85,7 @@ fn fifteen_units() -> Result<(), Fail> {
 // A text of zeros but for one octet 0x01, which comes back from 15 units of noise at the 16 places where its burst
 // differs from that of zeros alone. From 16 units on the zeros are as near or nearer, and they come before all others.
 #[test]
-fn sixteen_units_go_astray() -> Result<(), Fail> {
+fn sixteen_units_go_astray(rt: HostRuntime) -> Result<(), Fail> {
     let pile = standard_pile(USUAL);
     let zeros = [0u8; 240];
     let mut other = [2u8; LONGEST];
@@ -108,17 +106,17 @@ fn sixteen_units_go_astray() -> Result<(), Fail> {
         let mut burst = [2u8; LONGEST];
         write(&pile, &sent, &mut burst)?;
         let mut values = [0i8; LONGEST];
-        check_eq(between(&burst, &other, wrongs, lost, &mut values), 16)?;
+        assert_eq!(rt; between(&burst, &other, wrongs, lost, &mut values), 16);
         let mut memory = [0i8; LONGEST];
         let mut receiver = Receiver::open(&mut memory);
         receiver.hear(&values)?;
         let mut text = [0xFFu8; 240];
         let mut work = [0u16; 1_924];
-        check_eq(
+        assert_eq!(rt;
             receiver.read(&pile, 240, &mut text, &mut work),
-            Ok(distance),
-        )?;
-        check_eq(text, if astray { zeros } else { sent })?;
+            Ok(distance)
+        );
+        assert_eq!(rt; text, if astray { zeros } else { sent });
     }
     Ok(())
 }

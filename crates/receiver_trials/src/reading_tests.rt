@@ -1,14 +1,11 @@
 // Reading on worked examples. Every expected answer is worked out from the rules, and none from a run.
 use crate::flip::Flip;
-use crate::flip::FlipStage;
 use crate::noise::*;
 use layout::*;
-use pile::PileMarkedStage;
-use pile::PileStage;
 use receiver::Receiver;
 use refusal::*;
 use stage::*;
-use std::test::*;
+use std::test::Fail;
 use transmitter::write;
 
 // The length of one octet's burst through the standard pile.
@@ -17,24 +14,25 @@ const ONE_OCTET: usize = 180;
 // 168 of the 180 places hold a bit, and each is 127 away from nothing. The bursts of all octets are equally far, so the
 // smallest comes first. What stands in memory past the count makes no difference.
 #[test]
-fn silence() -> Result<(), Fail> {
+fn silence(rt: HostRuntime) -> Result<(), Fail> {
     let mut memory = [-128i8; 200];
     let mut receiver = Receiver::open(&mut memory);
     receiver.hear(&[0i8; ONE_OCTET])?;
     let mut text = [9u8; 3];
     let mut work = [77u16; 15];
-    check_eq(
+    assert_eq!(rt;
         receiver.read(&standard_pile(USUAL), 1, &mut text, &mut work),
-        Ok(0x5358),
-    )?;
-    check_eq(text, [0, 9, 9])?;
-    check_eq(work.get(12..15), Some([77u16, 77, 77].as_slice()))
+        Ok(0x5358)
+    );
+    assert_eq!(rt; text, [0, 9, 9]);
+    assert_eq!(rt; work.get(12..15), Some([77u16, 77, 77].as_slice()));
+    Ok(())
 }
 
 // These two octets are 16 places apart in the burst, and no two octets are nearer. A wrong value is 254 away from the
 // burst sent, a lost one 127. Past 15 units the other burst is as near or nearer, and 0x00 comes first among equals.
 #[test]
-fn sixteen_places_apart() -> Result<(), Fail> {
+fn sixteen_places_apart(rt: HostRuntime) -> Result<(), Fail> {
     let pile = standard_pile(USUAL);
     let mut zero = [2u8; ONE_OCTET];
     let mut one = [2u8; ONE_OCTET];
@@ -59,14 +57,14 @@ fn sixteen_places_apart() -> Result<(), Fail> {
         } else {
             between(&one, &zero, wrongs, lost, &mut values)
         };
-        check_eq(apart, 16)?;
+        assert_eq!(rt; apart, 16);
         let mut memory = [0i8; ONE_OCTET];
         let mut receiver = Receiver::open(&mut memory);
         receiver.hear(&values)?;
         let mut text = [0xFFu8; 1];
         let mut work = [0u16; 12];
-        check_eq(receiver.read(&pile, 1, &mut text, &mut work), Ok(distance))?;
-        check_eq(text, [read])?;
+        assert_eq!(rt; receiver.read(&pile, 1, &mut text, &mut work), Ok(distance));
+        assert_eq!(rt; text, [read]);
     }
     Ok(())
 }
@@ -74,7 +72,7 @@ fn sixteen_places_apart() -> Result<(), Fail> {
 // Each check comes before the next, and a refused read leaves the text memory and the working memory as found.
 // With one more value the burst of two octets is whole: the zeros leave the stage as 80 ones, each 124 away from a 3.
 #[test]
-fn refusals() -> Result<(), Fail> {
+fn refusals(rt: HostRuntime) -> Result<(), Fail> {
     let mut memory = [0i8; 80];
     let mut receiver = Receiver::open(&mut memory);
     receiver.hear(&[3i8; 79])?;
@@ -100,14 +98,15 @@ fn refusals() -> Result<(), Fail> {
         if steps <= 2_000 {
             working = &mut work[0..steps];
         }
-        check_eq(receiver.read(&Flip, m, lent, working), Err(refusal))?;
-        check_eq(text, [9u8; 300])?;
-        check_eq(work, [77u16; 2_000])?;
+        assert_eq!(rt; receiver.read(&Flip, m, lent, working), Err(refusal));
+        assert_eq!(rt; text, [9u8; 300]);
+        assert_eq!(rt; work, [77u16; 2_000]);
     }
     receiver.hear(&[3])?;
     let mut text = [9u8; 4];
     let mut work = [77u16; 22];
-    check_eq(receiver.read(&Flip, 2, &mut text, &mut work), Ok(9920))?;
-    check_eq(text, [0, 0, 9, 9])?;
-    check_eq(work.get(20..22), Some([77u16, 77].as_slice()))
+    assert_eq!(rt; receiver.read(&Flip, 2, &mut text, &mut work), Ok(9920));
+    assert_eq!(rt; text, [0, 0, 9, 9]);
+    assert_eq!(rt; work.get(20..22), Some([77u16, 77].as_slice()));
+    Ok(())
 }

@@ -4,7 +4,7 @@ use layout::*;
 use receiver::Receiver;
 use refusal::*;
 use stage::*;
-use std::test::*;
+use std::test::Fail;
 
 // The stages that the examples mix in one list.
 type Mixed = Either<Lead, Wire>;
@@ -27,71 +27,73 @@ fn noise_around(noise: i8, place: usize, burst: [i8; 8]) -> [i8; 80] {
 }
 
 #[test]
-fn memory_fills_up() -> Result<(), Fail> {
+fn memory_fills_up(rt: HostRuntime) {
     let mut memory = [9i8; 4];
     let mut receiver = Receiver::open(&mut memory);
-    check_eq(receiver.hear(&[1, -127, 127]), Ok(()))?;
-    check_eq(receiver.hear(&[5, 6]), Err(Refusal::CapacityExceeded))?;
-    check_eq(receiver.hear(&[-128, 6]), Err(Refusal::ValueOutOfRange))?;
-    check_eq(receiver.lose(1, 1), Ok(()))?;
-    check_eq(receiver.lose(3, 0), Ok(()))?;
-    check_eq(receiver.lose(4, 0), Err(Refusal::NoSuchPlace))?;
-    check_eq(
+    assert_eq!(rt; receiver.hear(&[1, -127, 127]), Ok(()));
+    assert_eq!(rt; receiver.hear(&[5, 6]), Err(Refusal::CapacityExceeded));
+    assert_eq!(rt; receiver.hear(&[-128, 6]), Err(Refusal::ValueOutOfRange));
+    assert_eq!(rt; receiver.lose(1, 1), Ok(()));
+    assert_eq!(rt; receiver.lose(3, 0), Ok(()));
+    assert_eq!(rt; receiver.lose(4, 0), Err(Refusal::NoSuchPlace));
+    assert_eq!(rt;
         receiver.lose(usize::MAX, usize::MAX),
-        Err(Refusal::NoSuchPlace),
-    )?;
-    check_eq(memory, [1, 0, 127, 9])
+        Err(Refusal::NoSuchPlace)
+    );
+    assert_eq!(rt; memory, [1, 0, 127, 9]);
 }
 
 #[test]
-fn full_memory_and_one_more() -> Result<(), Fail> {
+fn full_memory_and_one_more(rt: HostRuntime) {
     let mut memory = [9i8; 4];
     let mut receiver = Receiver::open(&mut memory);
-    check_eq(receiver.hear(&[1, 2, 3, 4]), Ok(()))?;
-    check_eq(receiver.hear(&[]), Ok(()))?;
-    check_eq(receiver.hear(&[5]), Err(Refusal::CapacityExceeded))
+    assert_eq!(rt; receiver.hear(&[1, 2, 3, 4]), Ok(()));
+    assert_eq!(rt; receiver.hear(&[]), Ok(()));
+    assert_eq!(rt; receiver.hear(&[5]), Err(Refusal::CapacityExceeded));
 }
 
 #[test]
-fn memory_longer_than_the_capacity() -> Result<(), Fail> {
+fn memory_longer_than_the_capacity(rt: HostRuntime) {
     let mut memory = [9i8; 32_769];
     let mut receiver = Receiver::open(&mut memory);
-    check_eq(receiver.hear(&[1i8; 32_768]), Ok(()))?;
-    check_eq(receiver.hear(&[1]), Err(Refusal::CapacityExceeded))
+    assert_eq!(rt; receiver.hear(&[1i8; 32_768]), Ok(()));
+    assert_eq!(rt; receiver.hear(&[1]), Err(Refusal::CapacityExceeded));
 }
 
 #[test]
-fn a_burst_at_every_offset() -> Result<(), Fail> {
+fn a_burst_at_every_offset(rt: HostRuntime) -> Result<(), Fail> {
     for noise in [20, -20] {
         for offset in 0..25 {
             let mut memory = [0i8; 80];
             let mut receiver = Receiver::open(&mut memory);
             receiver.hear(&noise_around(noise, offset, LEAD))?;
-            check_eq(receiver.find(&Lead, 1), Ok((offset, 1016)))?;
+            assert_eq!(rt; receiver.find(&Lead, 1), Ok((offset, 1016)));
         }
     }
     Ok(())
 }
 
 #[test]
-fn the_earlier_of_two_bursts() -> Result<(), Fail> {
+fn the_earlier_of_two_bursts(rt: HostRuntime) -> Result<(), Fail> {
     let mut memory = [0i8; 160];
     let mut receiver = Receiver::open(&mut memory);
     receiver.hear(&noise_around(0, 3, LEAD))?;
     receiver.hear(&noise_around(0, 3, LEAD))?;
-    check_eq(receiver.find(&Lead, 1), Ok((3, 1016)))?;
+    assert_eq!(rt; receiver.find(&Lead, 1), Ok((3, 1016)));
     receiver.lose(3, 1)?;
-    check_eq(receiver.find(&Lead, 1), Ok((83, 1016)))
+    assert_eq!(rt; receiver.find(&Lead, 1), Ok((83, 1016)));
+    Ok(())
 }
 
 #[test]
-fn the_least_fit() -> Result<(), Fail> {
+fn the_least_fit(rt: HostRuntime) -> Result<(), Fail> {
     let mut memory = [0i8; 80];
     let mut receiver = Receiver::open(&mut memory);
     receiver.hear(&noise_around(0, 24, WEAK_LEAD))?;
-    check_eq(receiver.find(&Lead, 1), Ok((24, 512)))?;
+    assert_eq!(rt; receiver.find(&Lead, 1), Ok((24, 512)));
     receiver.lose(24, 1)?;
-    check_eq(receiver.find(&Lead, 1), Err(Refusal::PoorFit))
+    assert_eq!(rt; receiver.find(&Lead, 1), Err(Refusal::PoorFit));
+    Ok(())
 }
 
 // Calls of all kinds over 64 values, refused ones among them.
@@ -145,7 +147,7 @@ fn played<'c>(
 }
 
 #[test]
-fn a_history() -> Result<(), Fail> {
+fn a_history(rt: HostRuntime) -> Result<(), Fail> {
     let expected = [
         Answer::Done,
         Answer::Done,
@@ -198,5 +200,6 @@ fn a_history() -> Result<(), Fail> {
         &noise_around(0, 5, WEAK_LEAD)[0..64],
         &mut answers,
     )?;
-    check_eq(answers, expected)
+    assert_eq!(rt; answers, expected);
+    Ok(())
 }

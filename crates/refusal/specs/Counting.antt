@@ -1,9 +1,5 @@
 -- Counting over the places below n: the words that the rules of all rooms share.
-use mathlib.Core.Bool.{Bool, true, false, cond, _&&_, _||_}
-use mathlib.Core.List.{List, [], _∷_}
-use Prim.Native.Nat.{ℕ, zero, suc, _+_, _<_}
-use lib.IntN.{ℤ}
-use lib.Signed.{leZ, _≤ℤ_, _<ℤ_}
+use Rattle.std.specs.Prelude.{ℕ, zero, suc, ◌+◌, ◌<◌, Bool, true, false, cond, ◌&&◌, ◌||◌, List, [], ◌∷◌, ℤ, ◌≤ℤ◌, ◌<ℤ◌, int_le}
 
 -- the sum of f at 0, at 1, and so on below n
 abbrev pub total : ℕ → (ℕ → ℕ) → ℕ
@@ -20,18 +16,18 @@ any test [] = false
 any test (x ∷ xs) = test x || any test xs
 
 -- the first place below n that passes a test
-abbrev pub first-place : (ℕ → Bool) → ℕ → ℕ
-first-place test zero = zero
-first-place test (suc n) = cond (test zero) zero (suc (first-place (λ p. test (suc p)) n))
+abbrev pub first_place : (ℕ → Bool) → ℕ → ℕ
+first_place test zero = zero
+first_place test (suc n) = cond (test zero) zero (suc (first_place (λ p. test (suc p)) n))
 
 -- f is nowhere below n greater than at place b
 abbrev pub unbeaten : (ℕ → ℤ) → ℕ → ℕ → Bool
 unbeaten f zero b = true
-unbeaten f (suc n) b = leZ (f n) (f b) && unbeaten f n b
+unbeaten f (suc n) b = int_le (f n) (f b) && unbeaten f n b
 
 -- the earliest place below n at which f is greatest
-abbrev pub earliest-best : (ℕ → ℤ) → ℕ → ℕ
-earliest-best f n = first-place (unbeaten f n) n
+abbrev pub earliest_best : (ℕ → ℤ) → ℕ → ℕ
+earliest_best f n = first_place (unbeaten f n) n
 
 -- the same, by what it is: nowhere below n is f greater than at b, and at every earlier place it is less
 pub record EarliestBest (f : ℕ → ℤ) (n b : ℕ) : Type 0 where

@@ -1,7 +1,7 @@
 // The one closed list of refusals. Every call of the modem answers its result or one of these.
-ghost use mathlib.Core.Path.{_≡_};
-ghost use Rattle·std.specs.declared.option.Option.the-variants.{Some};
-ghost use Rattle·refusal·specs.Table.{numberOf, sentenceOf};
+ghost use Rattle.std.specs.Prelude.{◌≡◌, Some};
+ghost use Rattle.refusal.specs.Table.{number_of, sentence_of};
+
 use std::fmt;
 
 #[derive(Clone, Copy, PartialEq, Eq, Debug)]
@@ -24,7 +24,7 @@ pub enum Refusal {
 impl Refusal {
     // The number of the refusal in the table.
     pub fn number(self) -> u8
-        ensures { λ r. ⌜ r ≡ numberOf self ⌝ }
+        ensures { result ≡ number_of self }
     {
         match self {
             Refusal::EmptyText => 1,
@@ -45,7 +45,7 @@ impl Refusal {
 
     // What went wrong, in one sentence.
     pub fn sentence(self) -> &'static str
-        ensures { λ r. ⌜ now r ≡ sentenceOf self ⌝ }
+        ensures { result.now ≡ sentence_of self }
     {
         match self {
             Refusal::EmptyText => "the text has no octet",
@@ -66,8 +66,8 @@ impl Refusal {
 }
 
 // Prints the sentence.
-pub impl fmt::Display for Refusal as RefusalDisplay {
-    ghost shown = { λ x. Some (sentenceOf x) };
+impl fmt::Display for Refusal {
+    ghost output = { λ x. Some (sentence_of x) };
 
     fn fmt<W: fmt::Write>(&self, f: &mut fmt::Formatter<W>) -> fmt::Result {
         f.write_str(self.sentence())

@@ -1,110 +1,101 @@
 -- A burst at full strength is read back.
-use mathlib.Core.Path.{_≡_, refl, sym, ap, subst, _∙_}
-use mathlib.Core.Bool.{Bool, true, false, not, _||_}
-use mathlib.Core.List.{List, map}
-use Prim.Native.Nat.{ℕ, _+_, _≤_, _<_}
-use native.Mathlib.Omega.{arith}
-use lib.Dec.{T, ltb}
-use lib.IntN.{ℤ}
-use lib.ListN.{length, getD, take, drop}
-use Rattle·std.specs.declared.result.Result.{Result}
-use Rattle·std.specs.declared.result.Result.the-variants.{Ok, Err}
-use Rattle·std.proofs.shelf.Lists.{length-map, take-all}
-use Rattle·std.proofs.shelf.Tests.{le-ltb}
-use Rattle·refusal.specs.declared.Refusal.{Refusal}
-use Rattle·refusal.specs.declared.Refusal.the-variants.{MemoryTooShort, CapacityExceeded, CountNotTaken, BurstNotHeard}
-use Rattle·refusal.specs.Answer.{refused-when, text-checked}
-use Rattle·refusal.specs.Counting.{any}
-use Rattle·refusal.proofs.Checks.{past, text-past}
-use Rattle·refusal.proofs.Places.{is-true}
-use Rattle·code.specs.Coder.{coded-count}
-use Rattle·code.specs.Nearest.{Octets}
-use Rattle·stage.specs.Burst.{burst}
-use Rattle·stage.specs.Elements.{full-strength}
-use Rattle·stage.specs.Meaning.{Meaning, Homes, length-answer}
-use Rattle·stage.proofs.AnswersKnown.{length-known, ok-is}
-use Rattle·transmitter.specs.Write.{burst-length, burst-answer}
-use Rattle·transmitter.proofs.Octets.{n-is, write-there}
-use Rattle·trellis.specs.Search.{steps-of}
-use Rattle·values.specs.Values.{out-of-range}
-use Rattle·reading.specs.Reading.{distance, nearest-string, nearest-distance, read-answer}
-use Rattle·reading.proofs.Bridge.{length-burst}
-use Rattle·reading.proofs.Shown.{read-shows}
-use Rattle·roundtrip·specs.RoundTrip.{read-back-answer}
+use Rattle.std.proofs.Common.{◌≡◌, ℕ, ◌+◌, ◌<◌, ◌≤◌, Bool, true, false, not, ◌||◌, T, ltb, List, map, length, get_or, take, drop, ℤ, Ok, Err, Result, sym, refl, ap, ◌∙◌, subst, arith}
+use Rattle.std.proofs.lemmas.List.{length-map, take_all}
+use Rattle.std.proofs.lemmas.Bool.{le-ltb}
+use Rattle.refusal.specs.declared.Refusal.{Refusal}
+use Rattle.refusal.specs.declared.Refusal.TheVariants.{MemoryTooShort, CapacityExceeded, CountNotTaken, BurstNotHeard}
+use Rattle.refusal.specs.Answer.{refused_when, text_checked}
+use Rattle.refusal.specs.Counting.{any}
+use Rattle.refusal.proofs.Checks.{past, text_past}
+use Rattle.refusal.proofs.Places.{is_true}
+use Rattle.code.specs.Coder.{coded_count}
+use Rattle.code.specs.Nearest.{Octets}
+use Rattle.stage.specs.Burst.{burst}
+use Rattle.stage.specs.Elements.{full_strength}
+use Rattle.stage.specs.Meaning.{Meaning, Homes, length_answer}
+use Rattle.stage.proofs.AnswersKnown.{length_known, ok_is}
+use Rattle.transmitter.specs.Write.{burst_length, burst_answer}
+use Rattle.transmitter.proofs.Octets.{n_is, write_there}
+use Rattle.trellis.specs.Search.{steps_of}
+use Rattle.values.specs.Values.{out_of_range}
+use Rattle.reading.specs.Reading.{distance, nearest_string, nearest_distance, read_answer}
+use Rattle.reading.proofs.Bridge.{length_burst}
+use Rattle.reading.proofs.Shown.{read_shows}
+use Rattle.roundtrip.specs.RoundTrip.{read_back_answer}
 
 -- past the checks on the text and on the stage
-module _ (pile : Meaning) (homes : Homes pile) (sent : List ℕ) (n len : ℕ) (counted : Ok n ≡ text-checked (length sent) (Ok (coded-count (length sent)))) (measured : Ok len ≡ length-answer pile n) where
-  count-is : n ≡ coded-count (length sent)
-  count-is = text-past (length sent) (coded-count (length sent)) n (Ok n) counted .1
+module _ (pile : Meaning) (homes : Homes pile) (sent : List ℕ) (n len : ℕ) (counted : Ok n ≡ text_checked (length sent) (Ok (coded_count (length sent)))) (measured : Ok len ≡ length_answer pile n) where
+  count_is : n ≡ coded_count (length sent)
+  count_is = (text_past (length sent) (coded_count (length sent)) n (Ok n) counted).1
 
-  pub len-is : len ≡ burst-length pile sent
-  len-is = length-known pile n len measured .1 ∙ ap (pile .size) count-is
+  pub len_is : len ≡ burst_length pile sent
+  len_is = (length_known pile n len measured).1 ∙ ap pile.size count_is
 
-  takes-it : T (pile .takes (coded-count (length sent)))
-  takes-it = subst (λ z. T (pile .takes z)) count-is (length-known pile n len measured .0)
+  takes_it : T (pile.takes (coded_count (length sent)))
+  takes_it = subst (λ z. T (pile.takes z)) count_is (length_known pile n len measured).0
 
-  pub at-most : len ≤ 32768
-  at-most = subst (λ z. z ≤ 32768) (sym len-is) (homes .most (coded-count (length sent)) takes-it)
+  pub at_most : len ≤ 32768
+  at_most = subst (λ z. z ≤ 32768) (sym len_is) (homes.most (coded_count (length sent)) takes_it)
 
-  pub long-burst : length (burst pile sent) ≡ len
-  long-burst = length-burst pile sent (coded-count (length sent)) refl ∙ sym len-is
+  pub long_burst : length (burst pile sent) ≡ len
+  long_burst = length_burst pile sent (coded_count (length sent)) refl ∙ sym len_is
 
   -- both are past the same checks
-  behind : {A : Type 0} (rest : Result A Refusal) → text-checked (length sent) (refused-when (not (pile .takes (coded-count (length sent)))) CountNotTaken rest) ≡ rest
+  behind : {A : Type 0} (rest : Result A Refusal) → text_checked (length sent) (refused_when (not (pile.takes (coded_count (length sent)))) CountNotTaken rest) ≡ rest
   behind rest =
-      text-past (length sent) (coded-count (length sent)) n (refused-when (not (pile .takes (coded-count (length sent)))) CountNotTaken rest) counted .0
-      ∙ ap (λ b. refused-when (not b) CountNotTaken rest) (is-true (pile .takes (coded-count (length sent))) takes-it)
+      (text_past (length sent) (coded_count (length sent)) n (refused_when (not (pile.takes (coded_count (length sent)))) CountNotTaken rest) counted).0
+      ∙ ap (λ b. refused_when (not b) CountNotTaken rest) (is_true (pile.takes (coded_count (length sent))) takes_it)
 
-  pub short-refused : (elements values text work : ℕ) → (ltb elements len || (ltb text (length sent) || ltb work (steps-of (length sent)))) ≡ true → Err MemoryTooShort ≡ read-back-answer pile sent elements values text work
-  short-refused elements values text work short =
-      sym (behind _ ∙ ap (λ b. refused-when b MemoryTooShort (refused-when (ltb values (burst-length pile sent)) CapacityExceeded (Ok 0)))
-      (ap (λ z. ltb elements z || (ltb text (length sent) || ltb work (steps-of (length sent)))) (sym len-is) ∙ short))
+  pub short_refused : (elements values text work : ℕ) → (ltb elements len || (ltb text (length sent) || ltb work (steps_of (length sent)))) ≡ true → Err MemoryTooShort ≡ read_back_answer pile sent elements values text work
+  short_refused elements values text work short =
+      sym (behind _ ∙ ap (λ b. refused_when b MemoryTooShort (refused_when (ltb values (burst_length pile sent)) CapacityExceeded (Ok 0)))
+      (ap (λ z. ltb elements z || (ltb text (length sent) || ltb work (steps_of (length sent)))) (sym len_is) ∙ short))
 
-  module _ (elements text work : ℕ) (roomy : len ≤ elements) (text-fits : length sent ≤ text) (work-fits : steps-of (length sent) ≤ work) where
-    enough : (ltb elements (burst-length pile sent) || (ltb text (length sent) || ltb work (steps-of (length sent)))) ≡ false
+  module _ (elements text work : ℕ) (roomy : len ≤ elements) (text_fits : length sent ≤ text) (work-fits : steps_of (length sent) ≤ work) where
+    enough : (ltb elements (burst_length pile sent) || (ltb text (length sent) || ltb work (steps_of (length sent)))) ≡ false
     enough =
-        let a : ltb elements (burst-length pile sent) ≡ false = le-ltb elements (burst-length pile sent) (subst (λ z. z ≤ elements) len-is roomy) in
-        let b : ltb text (length sent) ≡ false = le-ltb text (length sent) text-fits in
-        let d : ltb work (steps-of (length sent)) ≡ false = le-ltb work (steps-of (length sent)) work-fits in
+        let a : ltb elements (burst_length pile sent) ≡ false = le-ltb elements (burst_length pile sent) (subst (λ z. z ≤ elements) len_is roomy) in
+        let b : ltb text (length sent) ≡ false = le-ltb text (length sent) text_fits in
+        let d : ltb work (steps_of (length sent)) ≡ false = le-ltb work (steps_of (length sent)) work-fits in
         rw (a, b, d) refl
 
-    past-memory : (values : ℕ) → read-back-answer pile sent elements values text work ≡ refused-when (ltb values (burst-length pile sent)) CapacityExceeded (Ok 0)
-    past-memory values = behind _ ∙ past _ MemoryTooShort _ enough
+    past_memory : (values : ℕ) → read_back_answer pile sent elements values text work ≡ refused_when (ltb values (burst_length pile sent)) CapacityExceeded (Ok 0)
+    past_memory values = behind _ ∙ past _ MemoryTooShort _ enough
 
-    pub room-refused : (values : ℕ) → ltb values len ≡ true → Err CapacityExceeded ≡ read-back-answer pile sent elements values text work
-    room-refused values short =
-        sym (past-memory values ∙ ap (λ b. refused-when b CapacityExceeded (Ok 0)) (ap (ltb values) (sym len-is) ∙ short))
+    pub room_refused : (values : ℕ) → ltb values len ≡ true → Err CapacityExceeded ≡ read_back_answer pile sent elements values text work
+    room_refused values short =
+        sym (past_memory values ∙ ap (λ b. refused_when b CapacityExceeded (Ok 0)) (ap (ltb values) (sym len_is) ∙ short))
 
-    pub accepted-back : (values : ℕ) → len ≤ values → Ok 0 ≡ read-back-answer pile sent elements values text work
-    accepted-back values fits =
-        sym (past-memory values ∙ past _ CapacityExceeded (Ok 0) (le-ltb values (burst-length pile sent) (subst (λ z. z ≤ values) len-is fits)))
+    pub accepted_back : (values : ℕ) → len ≤ values → Ok 0 ≡ read_back_answer pile sent elements values text work
+    accepted_back values fits =
+        sym (past_memory values ∙ past _ CapacityExceeded (Ok 0) (le-ltb values (burst_length pile sent) (subst (λ z. z ≤ values) len_is fits)))
 
     -- writing is not refused
-    pub written-ok : Ok len ≡ burst-answer pile sent elements
-    written-ok = write-there pile homes sent n counted len measured elements roomy
+    pub written_ok : Ok len ≡ burst_answer pile sent elements
+    written_ok = write_there pile homes sent n counted len measured elements roomy
 
     -- the reading of the values gives the text at distance 0
-    module _ (values : List ℤ) (strong : values ≡ map full-strength (burst pile sent)) (range : any out-of-range values ≡ false) (octets : (k : ℕ) → getD sent k 0 < 256) where
+    module _ (values : List ℤ) (strong : values ≡ map full_strength (burst pile sent)) (range : any out_of_range values ≡ false) (octets : (k : ℕ) → get_or sent k 0 < 256) where
       m : ℕ
       m = length sent
 
-      whole : length values ≡ burst-length pile sent
-      whole = ap length strong ∙ length-map (burst pile sent) full-strength ∙ long-burst ∙ len-is
+      whole : length values ≡ burst_length pile sent
+      whole = ap length strong ∙ length-map (burst pile sent) full_strength ∙ long_burst ∙ len_is
 
-      answered : Ok (nearest-distance values 0 pile (length sent)) ≡ read-answer values 0 pile (length sent) text work
+      answered : Ok (nearest_distance values 0 pile (length sent)) ≡ read_answer values 0 pile (length sent) text work
       answered =
-          let a : ltb (length values) (0 + pile .size (coded-count (length sent))) ≡ false = le-ltb (length values) (0 + pile .size (coded-count (length sent))) (omega (arith, whole)) in
-          let b : ltb text (length sent) ≡ false = le-ltb text (length sent) text-fits in
-          let d : ltb work (steps-of (length sent)) ≡ false = le-ltb work (steps-of (length sent)) work-fits in
+          let a : ltb (length values) (0 + pile.size (coded_count (length sent))) ≡ false = le-ltb (length values) (0 + pile.size (coded_count (length sent))) (omega (arith, whole)) in
+          let b : ltb text (length sent) ≡ false = le-ltb text (length sent) text_fits in
+          let d : ltb work (steps_of (length sent)) ≡ false = le-ltb work (steps_of (length sent)) work-fits in
           sym (behind _ ∙ rw (a, b, d) refl)
 
-      both : (nearest-string values 0 pile (length sent) ≡ sent) × (nearest-distance values 0 pile (length sent) ≡ 0)
+      both : (nearest_string values 0 pile (length sent) ≡ sent) × (nearest_distance values 0 pile (length sent) ≡ 0)
       both =
-          read-shows values 0 pile (length sent) text work (nearest-distance values 0 pile (length sent)) homes range answered .reads-back sent (refl, octets)
-          (take-all (pile .size (coded-count (length sent))) (drop 0 values) (omega (arith, whole)) ∙ strong)
+          (read_shows values 0 pile (length sent) text work (nearest_distance values 0 pile (length sent)) homes range answered).reads_back sent (refl, octets)
+          (take_all (pile.size (coded_count (length sent))) (drop 0 values) (omega (arith, whole)) ∙ strong)
 
-      pub reads-zero : read-answer values 0 pile (length sent) text work ≡ Ok 0
-      reads-zero = sym answered ∙ ap Ok (both .1)
+      pub reads_zero : read_answer values 0 pile (length sent) text work ≡ Ok 0
+      reads_zero = sym answered ∙ ap Ok both.1
 
-      pub reads-sent : nearest-string values 0 pile (length sent) ≡ sent
-      reads-sent = both .0
+      pub reads_sent : nearest_string values 0 pile (length sent) ≡ sent
+      reads_sent = both.0

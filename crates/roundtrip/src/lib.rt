@@ -1,29 +1,22 @@
 // The round trip: what is written for a text, heard at full strength, is read as that text.
-ghost use mathlib.Core.Path.{_≡_};
-ghost use mathlib.Core.List.{map};
-ghost use Prim.Native.Nat.{_≤_};
-ghost use denote.Ref.{name};
-ghost use lib.ListN.{length};
-ghost use Rattle·std.specs.Results.{isOk};
-ghost use Rattle·std.specs.declared.result.Result.the-variants.{Ok};
-ghost use Rattle·refusal.specs.Answer.{after, laid};
-ghost use Rattle·stage.specs.Burst.{burst};
-ghost use Rattle·stage.specs.Elements.{octet-of, full-strength};
-ghost use Rattle·trellis.specs.Search.{steps-of, UsesFirst};
-ghost use Rattle·receiver.specs.State.{opened};
-ghost use Rattle·receiver.specs.Held.{memory-of, room, held};
-ghost use Rattle·roundtrip·specs.RoundTrip.{strength-of, read-back-answer};
+ghost use Rattle.std.specs.Prelude.{◌≡◌, ◌≤◌, map, length, is_ok, Ok};
+ghost use Rattle.refusal.specs.Answer.{after, laid};
+ghost use Rattle.stage.specs.Burst.{burst};
+ghost use Rattle.stage.specs.Elements.{octet_of, full_strength};
+ghost use Rattle.trellis.specs.Search.{steps_of, UsesFirst};
+ghost use Rattle.receiver.specs.State.{opened};
+ghost use Rattle.receiver.specs.Held.{memory_of, room, held};
+ghost use Rattle.roundtrip.specs.RoundTrip.{strength_of, read_back_answer};
+
 use code::coded_count;
 use receiver::Receiver;
 use refusal::Refusal;
-use stage::Element;
-use stage::ElementFromOctet;
-use stage::Stage;
+use stage::{Element, Stage};
 use transmitter::write;
 
 // The value at which the element of an octet is heard where nothing disturbs it.
 fn strength(octet: u8) -> i8
-    ensures { λ r. ⌜ r ≡ strength-of octet ⌝ }
+    ensures { result ≡ strength_of octet }
 {
     match Element::try_from(octet) {
         Ok(Element::Zero) => -127,
@@ -34,13 +27,13 @@ fn strength(octet: u8) -> i8
 
 // Hears elements in memory, each at full strength.
 fn hear_elements(receiver: &mut Receiver, octets: &[u8]) -> Result<(), Refusal>
-    requires empty { ⌜ held (now receiver) ≡ opened ⌝ }
-    requires fits { ⌜ length (now octets) ≤ room (now receiver) ⌝ }
-    ensures answer { λ r. ⌜ r ≡ Ok tt ⌝ }
-    ensures values { λ _. ⌜ held (now (receiver .exit)) .values ≡ map strength-of (now (octets .entry)) ⌝ }
-    ensures start { λ _. ⌜ now (receiver .exit) .start ≡ 0 ⌝ }
-    ensures memory { λ _. ⌜ memory-of (now (receiver .exit)) ≡ laid (map strength-of (now (octets .entry))) (memory-of (now (receiver .entry))) ⌝ }
-    ensures same { λ _. ⌜ name (now (receiver .exit) .values) ≡ name (now (receiver .entry) .values) ⌝ }
+    requires empty { held receiver.old ≡ opened }
+    requires fits { length octets.now ≤ room receiver.old }
+    ensures answer { result ≡ Ok tt }
+    ensures values { (held receiver.new).values ≡ map strength_of octets.now }
+    ensures start { receiver.new.start ≡ 0 }
+    ensures memory { memory_of receiver.new ≡ laid (map strength_of octets.now) (memory_of receiver.old) }
+    ensures same { receiver.new.values.ghost_name ≡ receiver.old.values.ghost_name }
 {
     for i in 0..octets.len() {
         receiver.hear(&[strength(octets[i])])?;
@@ -59,12 +52,12 @@ pub fn read_back<S: Stage>(
     text: &mut [u8],
     work: &mut [u16],
 ) -> Result<u32, Refusal>
-    ensures answer { λ r. ⌜ r ≡ read-back-answer (S·Stage .meaning (now (pile .entry))) (now (sent .entry))
-        (length (now (elements .entry))) (length (now (values .entry))) (length (now (text .entry))) (length (now (work .entry))) ⌝ }
-    ensures elements { λ r. ⌜ now (elements .exit) ≡ after r (map octet-of (burst (S·Stage .meaning (now (pile .entry))) (now (sent .entry)))) (now (elements .entry)) ⌝ }
-    ensures values { λ r. ⌜ now (values .exit) ≡ after r (map full-strength (burst (S·Stage .meaning (now (pile .entry))) (now (sent .entry)))) (now (values .entry)) ⌝ }
-    ensures text { λ r. ⌜ now (text .exit) ≡ after r (now (sent .entry)) (now (text .entry)) ⌝ }
-    ensures working { λ r. ⌜ UsesFirst (steps-of (length (now (sent .entry)))) (isOk r) (now (work .entry)) (now (work .exit)) ⌝ }
+    ensures answer { result ≡ read_back_answer (S.Stage.meaning pile.now) sent.now
+        (length elements.old) (length values.old) (length text.old) (length work.old) }
+    ensures elements { elements.new ≡ after result (map octet_of (burst (S.Stage.meaning pile.now) sent.now)) elements.old }
+    ensures values { values.new ≡ after result (map full_strength (burst (S.Stage.meaning pile.now) sent.now)) values.old }
+    ensures text { text.new ≡ after result sent.now text.old }
+    ensures working { UsesFirst (steps_of (length sent.now)) (is_ok result) work.old work.new }
 {
     let m = sent.len();
     let n = coded_count(m)?;

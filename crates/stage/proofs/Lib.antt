@@ -1,6 +1,5 @@
 pub mod AnswersKnown
 pub mod Frames
-pub mod Homes
 pub mod Leaving
 pub mod Markers
 pub mod MarkersAt

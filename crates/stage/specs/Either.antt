@@ -1,6 +1,6 @@
 -- A stage that is one of two stages means what that one means.
-use Rattle·stage·specs.declared.either.Either.{Either}
-use Rattle·stage·specs.declared.either.Either.the-variants.{Left, Right}
+use Rattle.stage.specs.declared.either.Either.{Either}
+use Rattle.stage.specs.declared.either.Either.TheVariants.{Left, Right}
 
 -- what is said of the stage that stands there
 abbrev pub whichever : {P Q X : Type 0} → (P → X) → (Q → X) → Either P Q → X

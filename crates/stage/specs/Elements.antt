@@ -1,43 +1,37 @@
 -- Elements on their way: what leaves a stage when given elements enter it.
-use mathlib.Core.Bool.{Bool, true, false, not}
-use mathlib.Core.List.{List, map}
-use Prim.Native.Nat.{ℕ, zero, suc}
-use lib.IntN.{ℤ, pos, negsuc}
-use lib.ListN.{length, getD}
-use Rattle·std.specs.Iters.{counting}
-use Rattle·std.specs.declared.result.Result.{Result}
-use Rattle·std.specs.declared.result.Result.the-variants.{Ok, Err}
-use Rattle·refusal.specs.declared.Refusal.{Refusal}
-use Rattle·refusal.specs.declared.Refusal.the-variants.{BadElements}
-use Rattle·stage·specs.declared.Content.{Content}
-use Rattle·stage·specs.declared.Content.the-variants.{Carried, Inverted, Fixed, Mute as Silence}
-use Rattle·stage·specs.declared.Element.{Element}
-use Rattle·stage·specs.declared.Element.the-variants.{Zero, One, Mute}
-use Rattle·stage·specs.Meaning.{Meaning}
+use Rattle.std.specs.Prelude.{ℕ, zero, suc, Bool, true, false, not, List, map, length, ℤ, pos, negsuc, Ok, Err, Result, slice_index_or}
+use Rattle.std.specs.List.{range_with_len}
+use Rattle.refusal.specs.declared.Refusal.{Refusal}
+use Rattle.refusal.specs.declared.Refusal.TheVariants.{BadElements}
+use Rattle.stage.specs.declared.Content.{Content}
+use Rattle.stage.specs.declared.Content.TheVariants.{Carried, Inverted, Fixed, Mute as Silence}
+use Rattle.stage.specs.declared.Element.{Element}
+use Rattle.stage.specs.declared.Element.TheVariants.{Zero, One, Mute}
+use Rattle.stage.specs.Meaning.{Meaning}
 
 -- the octet that stands for an element in memory
-abbrev pub octet-of : Element → ℕ
-octet-of Zero = 0
-octet-of One = 1
-octet-of Mute = 2
+abbrev pub octet_of : Element → ℕ
+octet_of Zero = 0
+octet_of One = 1
+octet_of Mute = 2
 
 -- the element that an octet of memory stands for; an octet above 2 stands for none
-abbrev pub octet-answer : ℕ → Result Element Refusal
-octet-answer zero = Ok Zero
-octet-answer (suc zero) = Ok One
-octet-answer (suc (suc zero)) = Ok Mute
-octet-answer (suc (suc (suc octet))) = Err BadElements
+abbrev pub octet_answer : ℕ → Result Element Refusal
+octet_answer zero = Ok Zero
+octet_answer (suc zero) = Ok One
+octet_answer (suc (suc zero)) = Ok Mute
+octet_answer (suc (suc (suc octet))) = Err BadElements
 
 -- the value at which an element is heard where nothing disturbs it: 127 for a 1, -127 for a 0, and 0 for a mute
-abbrev pub full-strength : Element → ℤ
-full-strength One = pos 127
-full-strength Zero = negsuc 126
-full-strength Mute = pos 0
+abbrev pub full_strength : Element → ℤ
+full_strength One = pos 127
+full_strength Zero = negsuc 126
+full_strength Mute = pos 0
 
 -- the element of a bit
-abbrev pub element-of : Bool → Element
-element-of false = Zero
-element-of true = One
+abbrev pub element_of : Bool → Element
+element_of false = Zero
+element_of true = One
 
 -- an element inverted; an inverted mute is a mute
 abbrev pub opposite : Element → Element
@@ -54,12 +48,12 @@ inverse Silence = Silence
 
 -- the element that stands where a stage has this content, when these elements enter
 abbrev pub evaluated : List Element → Content → Element
-evaluated entering (Carried i) = getD entering i Mute
-evaluated entering (Inverted i) = opposite (getD entering i Mute)
-evaluated entering (Fixed b) = element-of b
+evaluated entering (Carried i) = slice_index_or entering i Mute
+evaluated entering (Inverted i) = opposite (slice_index_or entering i Mute)
+evaluated entering (Fixed b) = element_of b
 evaluated entering Silence = Mute
 
 -- what leaves a stage when these elements enter: at each outgoing place its content, evaluated
 abbrev pub leaving : Meaning → List Element → List Element
 leaving m entering =
-    map (λ p. evaluated entering (m .at (length entering) p)) (counting 0 (m .size (length entering)))
+    map (λ p. evaluated entering (m.at (length entering) p)) (range_with_len 0 (m.size (length entering)))

@@ -1,30 +1,24 @@
 -- Elements in memory: an octet each, two to a frame.
-use mathlib.Core.Bool.{Bool, _||_}
-use mathlib.Core.List.{List}
-use Prim.Native.Nat.{ℕ, _%_}
-use lib.Dec.{eqb, ltb}
-use lib.ListN.{length, getD}
-use Rattle·std.specs.declared.result.Result.{Result}
-use Rattle·std.specs.declared.result.Result.the-variants.{Ok, Err}
-use Rattle·refusal.specs.declared.Refusal.{Refusal}
-use Rattle·refusal.specs.Counting.{any}
-use Rattle·stage·specs.declared.Element.{Element}
-use Rattle·stage·specs.declared.Element.the-variants.{Mute}
-use Rattle·stage·specs.Elements.{octet-answer}
+use Rattle.std.specs.Prelude.{ℕ, ◌%◌, Bool, ◌||◌, List, length, Ok, Err, Result, ◌==◌, nat_lt, slice_index}
+use Rattle.refusal.specs.declared.Refusal.{Refusal}
+use Rattle.refusal.specs.Counting.{any}
+use Rattle.stage.specs.declared.Element.{Element}
+use Rattle.stage.specs.declared.Element.TheVariants.{Mute}
+use Rattle.stage.specs.Elements.{octet_answer}
 
 -- an octet that stands for no element: one above 2
-abbrev pub no-element : ℕ → Bool
-no-element octet = ltb 2 octet
+abbrev pub no_element : ℕ → Bool
+no_element octet = nat_lt 2 octet
 
 -- octets that are no frames of two elements each: an odd count, or an octet that stands for no element
-abbrev pub no-frames : List ℕ → Bool
-no-frames octets = eqb (length octets % 2) 1 || any no-element octets
+abbrev pub no_frames : List ℕ → Bool
+no_frames octets = length octets % 2 == 1 || any no_element octets
 
 -- the element of an answer; where there is none, which every call refuses first, a mute
-abbrev pub or-mute : Result Element Refusal → Element
-or-mute (Ok element) = element
-or-mute (Err refusal) = Mute
+abbrev pub or_mute : Result Element Refusal → Element
+or_mute (Ok element) = element
+or_mute (Err refusal) = Mute
 
 -- the element that stands at place p of memory
-abbrev pub element-at : List ℕ → ℕ → Element
-element-at octets p = or-mute (octet-answer (getD octets p 0))
+abbrev pub element_at : List ℕ → ℕ → Element
+element_at octets p = or_mute (octet_answer (slice_index octets p))

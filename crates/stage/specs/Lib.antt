@@ -7,3 +7,4 @@ pub mod Meaning
 pub mod Piled
 pub mod Places
 pub mod Wire
+pub mod Homes

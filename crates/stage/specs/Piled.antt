@@ -1,21 +1,14 @@
 -- What two stages in series mean: the output of the lower one is the input of the upper one.
-use mathlib.Core.Bool.{Bool, not, _&&_}
-use mathlib.Core.List.{List, map, _++_}
-use mathlib.Core.Path.{_≡_}
-use Prim.Native.Nat.{ℕ}
-use lib.Dec.{T, leb}
-use lib.ListN.{length}
-use Rattle·std.specs.declared.result.Result.{Result}
-use Rattle·std.specs.declared.result.Result.the-variants.{Ok}
-use Rattle·refusal.specs.declared.Refusal.{Refusal}
-use Rattle·refusal.specs.declared.Refusal.the-variants.{NoSuchPlace, CountNotTaken}
-use Rattle·refusal.specs.Answer.{refused-when}
-use Rattle·stage·specs.declared.Content.{Content}
-use Rattle·stage·specs.declared.Content.the-variants.{Carried, Inverted, Fixed, Mute}
-use Rattle·stage·specs.declared.Element.{Element}
-use Rattle·stage·specs.declared.Marker.{Marker}
-use Rattle·stage·specs.Elements.{inverse, leaving}
-use Rattle·stage·specs.Meaning.{Meaning, home-of}
+use Rattle.std.specs.Prelude.{◌≡◌, ℕ, Bool, not, ◌&&◌, T, List, ◌++◌, map, length, Ok, Result, nat_le}
+use Rattle.refusal.specs.declared.Refusal.{Refusal}
+use Rattle.refusal.specs.declared.Refusal.TheVariants.{NoSuchPlace, CountNotTaken}
+use Rattle.refusal.specs.Answer.{refused_when}
+use Rattle.stage.specs.declared.Content.{Content}
+use Rattle.stage.specs.declared.Content.TheVariants.{Carried, Inverted, Fixed, Mute}
+use Rattle.stage.specs.declared.Element.{Element}
+use Rattle.stage.specs.declared.Marker.{Marker}
+use Rattle.stage.specs.Elements.{inverse, leaving}
+use Rattle.stage.specs.Meaning.{Meaning, home_of}
 
 -- what the pile has where the upper has this content, over what the lower has at each of its places
 abbrev pub over : (ℕ → Content) → Content → Content
@@ -27,36 +20,36 @@ over lower Mute = Mute
 -- n is taken if the lower takes it and its outgoing length fits the upper
 abbrev pub piled : Meaning → Meaning → Meaning
 piled lower upper = record {
-  takes = λ n. lower .takes n && upper .takes (lower .size n);
-  size = λ n. upper .size (lower .size n);
-  at = λ n p. over (lower .at n) (upper .at (lower .size n) p);
+  takes = λ n. lower.takes n && upper.takes (lower.size n);
+  size = λ n. upper.size (lower.size n);
+  at = λ n p. over (lower.at n) (upper.at (lower.size n) p);
 }
 
 -- a bit as it stands where a stage has this content: inverted where the stage inverts
-abbrev pub bit-through : Bool → Content → Bool
-bit-through b (Carried j) = b
-bit-through b (Inverted j) = not b
-bit-through b (Fixed c) = b
-bit-through b Mute = b
+abbrev pub bit_through : Bool → Content → Bool
+bit_through b (Carried j) = b
+bit_through b (Inverted j) = not b
+bit_through b (Fixed c) = b
+bit_through b Mute = b
 
 -- a marker of the lower in the pile: at the new home of its place, inverted where the upper inverts
 abbrev pub raised : Meaning → ℕ → Marker → Marker
 raised upper n m = record {
-  place = home-of upper n (m .place);
-  bit = bit-through (m .bit) (upper .at n (home-of upper n (m .place)));
+  place = home_of upper n m.place;
+  bit = bit_through m.bit (upper.at n (home_of upper n m.place));
 }
 
 -- what asking a stage for a marker of the elements that enter it, as it leaves, answers
-abbrev pub raised-answer : Meaning → ℕ → Marker → Result Marker Refusal
-raised-answer upper n m =
-    refused-when (not (upper .takes n)) CountNotTaken (refused-when (leb n (m .place)) NoSuchPlace (Ok (raised upper n m)))
+abbrev pub raised_answer : Meaning → ℕ → Marker → Result Marker Refusal
+raised_answer upper n m =
+    refused_when (not (upper.takes n)) CountNotTaken (refused_when (nat_le n m.place) NoSuchPlace (Ok (raised upper n m)))
 
 -- the markers of the pile: the upper's first, then the lower's
-abbrev pub piled-markers : Meaning → Meaning → (ℕ → List Marker) → (ℕ → List Marker) → ℕ → List Marker
-piled-markers lower upper lower-markers upper-markers n =
-    upper-markers (lower .size n) ++ map (raised upper (lower .size n)) (lower-markers n)
+abbrev pub piled_markers : Meaning → Meaning → (ℕ → List Marker) → (ℕ → List Marker) → ℕ → List Marker
+piled_markers lower upper lower_markers upper_markers n =
+    upper_markers (lower.size n) ++ map (raised upper (lower.size n)) (lower_markers n)
 
 -- what leaves the pile is what leaves the upper when what leaves the lower enters it
 abbrev pub Enters : Meaning → Meaning → Type 0
 Enters lower upper =
-    (elements : List Element) → T (piled lower upper .takes (length elements)) → leaving (piled lower upper) elements ≡ leaving upper (leaving lower elements)
+    (elements : List Element) → T ((piled lower upper).takes (length elements)) → leaving (piled lower upper) elements ≡ leaving upper (leaving lower elements)

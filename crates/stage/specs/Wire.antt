@@ -1,15 +1,13 @@
 -- The wire: it passes all elements on.
-use mathlib.Core.List.{List, []}
-use Prim.Native.Nat.{ℕ}
-use lib.Dec.{leb}
-use Rattle·stage·specs.declared.Content.the-variants.{Carried}
-use Rattle·stage·specs.declared.Marker.{Marker}
-use Rattle·stage·specs.Meaning.{Meaning}
+use Rattle.std.specs.Prelude.{ℕ, List, [], nat_le}
+use Rattle.stage.specs.declared.Content.TheVariants.{Carried}
+use Rattle.stage.specs.declared.Marker.{Marker}
+use Rattle.stage.specs.Meaning.{Meaning}
 
 -- it takes up to 10,000 elements, and each stands where it stood
 abbrev pub wire : Meaning
-wire = record { takes = λ n. leb n 10000; size = λ n. n; at = λ n p. Carried p }
+wire = record { takes = λ n. nat_le n 10000; size = λ n. n; at = λ n p. Carried p }
 
 -- it has no markers
-abbrev pub wire-markers : ℕ → List Marker
-wire-markers n = []
+abbrev pub wire_markers : ℕ → List Marker
+wire_markers n = []

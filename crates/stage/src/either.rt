@@ -1,9 +1,8 @@
 // A stage that is one of two stages, so that one list can mix stages of different types.
-ghost use Rattle·stage·specs.Either.{whichever};
-use crate::Content;
-use crate::MarkedStage;
-use crate::Marker;
-use crate::Stage;
+ghost use Rattle.stage.specs.Either.{whichever};
+ghost use Rattle.stage.specs.declared.either.Either.TheVariants.{Left, Right};
+
+use crate::{Content, MarkedStage, Marker, Stage};
 use refusal::Refusal;
 
 // One of two stages.
@@ -13,14 +12,18 @@ pub enum Either<L, R> {
     Right(R),
 }
 
-pub impl<L: Stage, R: Stage> Stage for Either<L, R> as EitherStage {
-    ghost takes = { whichever (L·Stage .takes) (R·Stage .takes) };
+impl<L: Stage, R: Stage> Stage for Either<L, R> {
+    ghost takes = { whichever L.Stage.takes R.Stage.takes };
 
-    ghost size = { whichever (L·Stage .size) (R·Stage .size) };
+    ghost size = { whichever L.Stage.size R.Stage.size };
 
-    ghost at = { whichever (L·Stage .at) (R·Stage .at) };
+    ghost at = { whichever L.Stage.at R.Stage.at };
 
-    ghost meaning = { whichever (L·Stage .meaning) (R·Stage .meaning) };
+    ghost meaning = { whichever L.Stage.meaning R.Stage.meaning };
+
+    ghost whole = { elim [ Left s ↦ L.Stage.whole s | Right s ↦ R.Stage.whole s ] };
+
+    ghost homes = { elim [ Left s ↦ L.Stage.homes s | Right s ↦ R.Stage.homes s ] };
 
     fn length(&self, n: usize) -> Result<usize, Refusal> {
         match self {
@@ -44,8 +47,8 @@ pub impl<L: Stage, R: Stage> Stage for Either<L, R> as EitherStage {
     }
 }
 
-pub impl<L: MarkedStage, R: MarkedStage> MarkedStage for Either<L, R> as EitherMarkedStage {
-    ghost markers = { whichever (L·MarkedStage .markers) (R·MarkedStage .markers) };
+impl<L: MarkedStage, R: MarkedStage> MarkedStage for Either<L, R> {
+    ghost markers = { whichever L.MarkedStage.markers R.MarkedStage.markers };
 
     fn marker_count(&self, n: usize) -> Result<usize, Refusal> {
         match self {

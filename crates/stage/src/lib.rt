@@ -1,28 +1,20 @@
 // What a stage is: how elements on their way to the tones are moved, inverted and joined by others.
-ghost use mathlib.Core.Path.{_≡_};
-ghost use mathlib.Core.Bool.{Bool};
-ghost use mathlib.Core.List.{List};
-ghost use Prim.Native.Nat.{ℕ};
-ghost use Rattle·stage·specs.declared.Content.{Content as ContentOf};
-ghost use Rattle·stage·specs.declared.Marker.{Marker as MarkerOf};
-ghost use Rattle·stage·specs.Elements.{octet-of, element-of, octet-answer, inverse};
-ghost use Rattle·stage·specs.Marked.{Marked, count-answer, marker-answer};
-ghost use Rattle·stage·specs.Meaning.{Meaning, Homes, meaning-of, length-answer, content-answer, home-answer};
+ghost use Rattle.std.specs.Prelude.{◌≡◌, ℕ, Bool, List};
+ghost use Rattle.stage.specs.declared.Content.{Content as ContentOf};
+ghost use Rattle.stage.specs.declared.Marker.{Marker as MarkerOf};
+ghost use Rattle.stage.specs.Elements.{octet_of, element_of, octet_answer, inverse};
+ghost use Rattle.stage.specs.Marked.{Marked, count_answer, marker_answer};
+ghost use Rattle.stage.specs.Meaning.{Meaning, Homes, meaning_of, length_answer, content_answer, home_answer};
 
 mod either;
 mod elements;
 mod wire;
 
 pub use either::Either;
-pub use either::EitherMarkedStage;
-pub use either::EitherStage;
-pub use elements::FRAME_ELEMENTS;
-pub use elements::check_elements;
+pub use elements::{FRAME_ELEMENTS, check_elements};
 use refusal::Refusal;
 use std::ops::Not;
 pub use wire::Wire;
-pub use wire::WireMarkedStage;
-pub use wire::WireStage;
 
 // What stands at an outgoing place.
 #[derive(Clone, Copy, PartialEq, Eq, Debug)]
@@ -38,10 +30,10 @@ pub enum Content {
 }
 
 // `!content` inverts whatever stands there.
-pub impl Not for Content as ContentNot {
+impl Not for Content {
     type Output = Content;
 
-    ghost nots = { λ content r. r ≡ inverse content };
+    ghost not_gives = { λ content r. r ≡ inverse content };
 
     fn not(self) -> Content {
         match self {
@@ -62,8 +54,8 @@ pub enum Element {
 }
 
 // The element of a bit.
-pub impl From<bool> for Element as ElementFromBit {
-    ghost converts = { λ bit r. r ≡ element-of bit };
+impl From<bool> for Element {
+    ghost from_gives = { λ bit r. r ≡ element_of bit };
 
     fn from(bit: bool) -> Element {
         if bit { Element::One } else { Element::Zero }
@@ -71,8 +63,8 @@ pub impl From<bool> for Element as ElementFromBit {
 }
 
 // The octet that stands for an element in memory.
-pub impl From<Element> for u8 as OctetFromElement {
-    ghost converts = { λ element r. r ≡ octet-of element };
+impl From<Element> for u8 {
+    ghost from_gives = { λ element r. r ≡ octet_of element };
 
     fn from(element: Element) -> u8 {
         match element {
@@ -84,10 +76,10 @@ pub impl From<Element> for u8 as OctetFromElement {
 }
 
 // The element that an octet of memory stands for.
-pub impl TryFrom<u8> for Element as ElementFromOctet {
+impl TryFrom<u8> for Element {
     type Error = Refusal;
 
-    ghost converts = { λ octet r. r ≡ octet-answer octet };
+    ghost try_from_gives = { λ octet r. r ≡ octet_answer octet };
 
     fn try_from(octet: u8) -> Result<Element, Refusal> {
         match octet {
@@ -113,23 +105,23 @@ pub trait Stage {
     // the three together, which is what everything above a stage is proved against
     ghost meaning: { Self → Meaning };
 
-    // the meaning is these three and nothing else
-    law whole: { (s : Self) → meaning s ≡ meaning-of (takes s) (size s) (at s) };
-
-    // each incoming element has exactly one home
-    law homes: { (s : Self) → Homes (meaning s) };
-
     // How many elements leave when n enter.
     fn length(&self, n: usize) -> Result<usize, Refusal>
-        ensures { λ r. ⌜ r ≡ length-answer (meaning (now (self .entry))) n ⌝ };
+        ensures { result ≡ length_answer (meaning self.now) n };
 
     // What stands at an outgoing place when n elements enter.
     fn content(&self, n: usize, place: usize) -> Result<Content, Refusal>
-        ensures { λ r. ⌜ r ≡ content-answer (meaning (now (self .entry))) n place ⌝ };
+        ensures { result ≡ content_answer (meaning self.now) n place };
 
     // The place where an incoming element stands when n enter.
     fn home(&self, n: usize, element: usize) -> Result<usize, Refusal>
-        ensures { λ r. ⌜ r ≡ home-answer (meaning (now (self .entry))) n element ⌝ };
+        ensures { result ≡ home_answer (meaning self.now) n element };
+
+    // the meaning is these three and nothing else
+    ghost whole: { (s : Self) → meaning s ≡ meaning_of (takes s) (size s) (at s) };
+
+    // each incoming element has exactly one home
+    ghost homes: { (s : Self) → Homes (meaning s) };
 }
 
 // A fixed bit of a stage's own by which a burst can be found.
@@ -146,11 +138,11 @@ pub trait MarkedStage: Stage {
 
     // How many markers there are when n elements enter.
     fn marker_count(&self, n: usize) -> Result<usize, Refusal>
-        ensures answer { λ r. ⌜ r ≡ count-answer (Self·Stage .meaning (now (self .entry))) (markers (now (self .entry))) n ⌝ }
-        ensures marked { λ _. ⌜ Marked (Self·Stage .meaning (now (self .entry))) (markers (now (self .entry))) n ⌝ };
+        ensures answer { result ≡ count_answer (Self.Stage.meaning self.now) (markers self.now) n }
+        ensures marked { Marked (Self.Stage.meaning self.now) (markers self.now) n };
 
     // The marker with an index when n elements enter.
     fn marker(&self, n: usize, index: usize) -> Result<Marker, Refusal>
-        ensures answer { λ r. ⌜ r ≡ marker-answer (Self·Stage .meaning (now (self .entry))) (markers (now (self .entry))) n index ⌝ }
-        ensures marked { λ _. ⌜ Marked (Self·Stage .meaning (now (self .entry))) (markers (now (self .entry))) n ⌝ };
+        ensures answer { result ≡ marker_answer (Self.Stage.meaning self.now) (markers self.now) n index }
+        ensures marked { Marked (Self.Stage.meaning self.now) (markers self.now) n };
 }

@@ -1,14 +1,12 @@
 // The wire: a stage that passes all elements on.
-ghost use mathlib.Core.Path.{_≡_};
-ghost use mathlib.Core.Bool.{not};
-ghost use Rattle·std.specs.declared.result.Result.the-variants.{Ok};
-ghost use Rattle·refusal.specs.Answer.{refused-when};
-ghost use Rattle·refusal.specs.declared.Refusal.the-variants.{CountNotTaken};
-ghost use Rattle·stage·specs.Wire.{wire, wire-markers};
-use crate::Content;
-use crate::MarkedStage;
-use crate::Marker;
-use crate::Stage;
+ghost use Rattle.std.specs.Prelude.{◌≡◌, not, Ok};
+ghost use Rattle.refusal.specs.Answer.{refused_when};
+ghost use Rattle.refusal.specs.declared.Refusal.TheVariants.{CountNotTaken};
+ghost use Rattle.stage.specs.Wire.{wire, wire_markers};
+ghost use Rattle.stage.specs.Homes.{wire_homes};
+ghost use Rattle.std.proofs.Common.{rules};
+
+use crate::{Content, MarkedStage, Marker, Stage};
 use refusal::Refusal;
 
 // The most elements that the wire takes.
@@ -19,7 +17,7 @@ pub struct Wire;
 
 // Refuses a count that the wire does not take.
 fn check_count(n: usize) -> Result<(), Refusal>
-    ensures { λ r. ⌜ r ≡ refused-when (not (wire .takes n)) CountNotTaken (Ok tt) ⌝ }
+    ensures { result ≡ refused_when (not (wire.takes n)) CountNotTaken (Ok tt) }
 {
     if n > MOST_ELEMENTS {
         return Err(Refusal::CountNotTaken);
@@ -27,14 +25,18 @@ fn check_count(n: usize) -> Result<(), Refusal>
     Ok(())
 }
 
-pub impl Stage for Wire as WireStage {
-    ghost takes = { λ _. wire .takes };
+impl Stage for Wire {
+    ghost takes = { λ _. wire.takes };
 
-    ghost size = { λ _. wire .size };
+    ghost size = { λ _. wire.size };
 
-    ghost at = { λ _. wire .at };
+    ghost at = { λ _. wire.at };
 
     ghost meaning = { λ _. wire };
+
+    ghost whole = { Prim.search rules };
+
+    ghost homes = { λ s. wire_homes };
 
     fn length(&self, n: usize) -> Result<usize, Refusal> {
         check_count(n)?;
@@ -58,8 +60,8 @@ pub impl Stage for Wire as WireStage {
     }
 }
 
-pub impl MarkedStage for Wire as WireMarkedStage {
-    ghost markers = { λ _. wire-markers };
+impl MarkedStage for Wire {
+    ghost markers = { λ _. wire_markers };
 
     fn marker_count(&self, n: usize) -> Result<usize, Refusal> {
         check_count(n)?;

@@ -1,28 +1,22 @@
 -- The header around its two sizes, and the length of the whole file.
-use mathlib.Core.Path.{_≡_, refl, _∙_}
-use mathlib.Core.List.{List, [], _∷_, _++_}
-use Prim.Native.Nat.{ℕ, _+_}
-use lib.Chars.{codes}
-use lib.IntN.{ℤ}
-use lib.ListN.{length, getD}
-use Rattle·std.specs.Iters.{counting}
-use Rattle·std.specs.Joined.{joined}
-use Rattle·std.proofs.shelf.Lists.{length-append}
-use Rattle·refusal.proofs.Front.{length-joined}
-use Rattle·tone·specs.Wave.{header-of, two-octets, four-octets, sample-octets, stored-size, wave-file, wave-size}
+use Rattle.std.proofs.Common.{◌≡◌, ℕ, ◌+◌, List, [], ◌∷◌, ◌++◌, length, get_or, ℤ, codes, refl, ◌∙◌}
+use Rattle.std.specs.List.{range_with_len, flat_map}
+use Rattle.std.proofs.lemmas.List.{length-append}
+use Rattle.refusal.proofs.Front.{length-joined}
+use Rattle.tone.specs.Wave.{header_of, two_octets, four_octets, sample_octets, stored_size, wave_file, wave_size}
 
 abbrev four : List ℕ → List ℕ
-four r = getD r 0 0 ∷ getD r 1 0 ∷ getD r 2 0 ∷ getD r 3 0 ∷ []
+four r = get_or r 0 0 ∷ get_or r 1 0 ∷ get_or r 2 0 ∷ get_or r 3 0 ∷ []
 
 abbrev pub around : List ℕ → List ℕ → List ℕ
 around whole part =
-    codes "RIFF" ++ four whole ++ codes "WAVE" ++ codes "fmt " ++ four-octets 16 ++ two-octets 1 ++ two-octets 1 ++ four-octets 8000 ++ four-octets 16000 ++ two-octets 2 ++ two-octets 16 ++ codes "data" ++ four part
+    codes "RIFF" ++ four whole ++ codes "WAVE" ++ codes "fmt " ++ four_octets 16 ++ two_octets 1 ++ two_octets 1 ++ four_octets 8000 ++ four_octets 16000 ++ two_octets 2 ++ two_octets 16 ++ codes "data" ++ four part
 
-pub header-length : (size : ℕ) → length (header-of size) ≡ 44
-unfolding header-of
-header-length size = refl
+pub header_length : (size : ℕ) → length (header_of size) ≡ 44
+unfolding header_of
+header_length size = refl
 
-pub length-wave-file : (samples : List ℤ) → length (wave-file samples) ≡ wave-size (length samples)
-length-wave-file samples =
-    length-append (header-of (stored-size (length samples))) (joined (sample-octets samples) (counting 0 (length samples)))
-    ∙ (λ x. header-length (stored-size (length samples)) x + length-joined (sample-octets samples) 2 (λ _. refl) (length samples) x)
+pub length_wave_file : (samples : List ℤ) → length (wave_file samples) ≡ wave_size (length samples)
+length_wave_file samples =
+    length-append (header_of (stored_size (length samples))) (flat_map (sample_octets samples) (range_with_len 0 (length samples)))
+    ∙ (λ x. header_length (stored_size (length samples)) x + length-joined (sample_octets samples) 2 (λ _. refl) (length samples) x)

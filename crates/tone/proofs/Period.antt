@@ -1,42 +1,34 @@
 -- The table of the period, checked by one computed test over its 40 entries.
-use mathlib.Core.List.{List, map}
-use mathlib.Core.Path.{_≡_, refl, sym, ap, _∙_}
-use Prim.Native.Nat.{ℕ, _+_, _*_, _/_, _%_, _<_}
-use native.Mathlib.Nat.{zero-add}
-use native.Mathlib.Omega.{arith}
-use lib.IntN.{ℤ, pos, _*ℤ_}
-use lib.ListN.{getD}
-use mir.Syntax.{w16}
-use mir.Val.{toZ, ofZ}
-use Rattle·std.specs.Iters.{counting}
-use Rattle·std.proofs.shelf.Bits.{mod-below}
-use Rattle·std.proofs.shelf.Counted.{getD-map-counting}
-use Rattle·tone·specs.declared.Tone.{Tone}
-use Rattle·tone·specs.declared.Tone.the-variants.{Silence, Hz400, Hz600, Hz800, Hz1000}
-use Rattle·tone·specs.Tones.{hertz, sine, tone-sample}
+use Rattle.std.proofs.Common.{◌≡◌, ℕ, ◌+◌, ◌*◌, ◌/◌, ◌%◌, ◌<◌, List, map, get_or, ℤ, pos, ◌*ℤ◌, sym, refl, ap, ◌∙◌, zero-add, arith, w16, to_z, of_z}
+use Rattle.std.specs.List.{range_with_len}
+use Rattle.std.proofs.lemmas.Nat.{mod_below}
+use Rattle.std.proofs.lemmas.List.FromFn.{get_or-map-range_with_len}
+use Rattle.tone.specs.declared.Tone.{Tone}
+use Rattle.tone.specs.declared.Tone.TheVariants.{Silence, Hz400, Hz600, Hz800, Hz1000}
+use Rattle.tone.specs.Tones.{hertz, sine, tone_sample}
 
 -- two functions with one list of values agree at each place of it
-same-below : {X : Type 0} (f g : ℕ → X) (n : ℕ) → map f (counting 0 n) ≡ map g (counting 0 n) → (j : ℕ) → j < n → f j ≡ g j
-same-below f g n same j h =
-    sym (getD-map-counting f 0 n j j (f j) h (zero-add j)) ∙ ap (λ l. getD l j (f j)) same ∙ getD-map-counting g 0 n j j (f j) h (zero-add j)
+same_below : {X : Type 0} (f g : ℕ → X) (n : ℕ) → map f (range_with_len 0 n) ≡ map g (range_with_len 0 n) → (j : ℕ) → j < n → f j ≡ g j
+same_below f g n same j h =
+    sym (get_or-map-range_with_len f 0 n j j (f j) h (zero-add j)) ∙ ap (λ l. get_or l j (f j)) same ∙ get_or-map-range_with_len g 0 n j j (f j) h (zero-add j)
 
 abbrev pub step : ℕ → ℤ
 step j = pos 8 *ℤ sine j
 
 -- what stands at step j of the table, as 16 bits hold it, is eight times the sine there
-pub period-at : (j : ℕ) → j < 40 → toZ w16 (ofZ w16 (getD (map step (counting 0 40)) j (pos 0))) ≡ step j
-period-at j h =
-    ap (λ z. toZ w16 (ofZ w16 z)) (getD-map-counting step 0 40 j j (pos 0) h (zero-add j)) ∙ same-below (λ k. toZ w16 (ofZ w16 (step k))) step 40 refl j h
+pub period_at : (j : ℕ) → j < 40 → to_z w16 (of_z w16 (get_or (map step (range_with_len 0 40)) j (pos 0))) ≡ step j
+period_at j h =
+    ap (λ z. to_z w16 (of_z w16 z)) (get_or-map-range_with_len step 0 40 j j (pos 0) h (zero-add j)) ∙ same_below (λ k. to_z w16 (of_z w16 (step k))) step 40 refl j h
 
 -- a sample fits 16 bits
-pub sample-fits : (tone : Tone) (k : ℕ) → toZ w16 (ofZ w16 (tone-sample tone k)) ≡ tone-sample tone k
-sample-fits tone k =
-    same-below (λ j. toZ w16 (ofZ w16 (step j))) step 40 refl (hertz tone * k / 200 % 40) (mod-below (hertz tone * k / 200) 40 (omega arith))
+pub sample_fits : (tone : Tone) (k : ℕ) → to_z w16 (of_z w16 (tone_sample tone k)) ≡ tone_sample tone k
+sample_fits tone k =
+    same_below (λ j. to_z w16 (of_z w16 (step j))) step 40 refl (hertz tone * k / 200 % 40) (mod_below (hertz tone * k / 200) 40 (omega arith))
 
 -- the steps that a tone goes on by k samples
-pub stride-is : (tone : Tone) (k : ℕ) → hertz tone / 200 * k ≡ hertz tone * k / 200
-stride-is Silence k = omega arith
-stride-is Hz400 k = omega arith
-stride-is Hz600 k = omega arith
-stride-is Hz800 k = omega arith
-stride-is Hz1000 k = omega arith
+pub stride_is : (tone : Tone) (k : ℕ) → hertz tone / 200 * k ≡ hertz tone * k / 200
+stride_is Silence k = omega arith
+stride_is Hz400 k = omega arith
+stride_is Hz600 k = omega arith
+stride_is Hz800 k = omega arith
+stride_is Hz1000 k = omega arith

@@ -1,21 +1,14 @@
 // Elements to sound: two elements sound for five milliseconds at one of four frequencies.
-ghost use mathlib.Core.Path.{_≡_};
-ghost use Prim.Native.Nat.{ℕ, _/_, _<_};
-ghost use lib.ListN.{length};
-ghost use mathlib.Core.List.{map};
-ghost use Rattle·std.specs.Iters.{counting};
-ghost use Rattle·refusal.specs.Answer.{after};
-ghost use Rattle·tone·specs.Tones.{hertz, tone-sample, tone-of, samples, longest-memory, play-answer};
+ghost use Rattle.std.specs.Prelude.{◌≡◌, ℕ, ◌/◌, ◌<◌, map, length};
+ghost use Rattle.std.specs.List.{range_with_len};
+ghost use Rattle.refusal.specs.Answer.{after};
+ghost use Rattle.tone.specs.Tones.{hertz, tone_sample, tone_of, samples, longest_memory, play_answer};
 
 mod wave;
 
 use refusal::Refusal;
-use stage::Element;
-use stage::ElementFromOctet;
-use stage::FRAME_ELEMENTS;
-use stage::check_elements;
-pub use wave::wave_size;
-pub use wave::write_wave;
+use stage::{Element, FRAME_ELEMENTS, check_elements};
+pub use wave::{wave_size, write_wave};
 
 // Samples of a frame, at 8,000 a second.
 const FRAME_SAMPLES: usize = 40;
@@ -37,51 +30,14 @@ pub enum Tone {
 
 // One period of the sine in 40 steps, eight times its rounded values at an amplitude of 2047.
 const PERIOD: [i16; PERIOD_STEPS] = [
-    0,
-    2560,
-    5064,
-    7432,
-    9624,
-    11576,
-    13248,
-    14592,
-    15576,
-    16176,
-    16376,
-    16176,
-    15576,
-    14592,
-    13248,
-    11576,
-    9624,
-    7432,
-    5064,
-    2560,
-    0,
-    -2560,
-    -5064,
-    -7432,
-    -9624,
-    -11576,
-    -13248,
-    -14592,
-    -15576,
-    -16176,
-    -16376,
-    -16176,
-    -15576,
-    -14592,
-    -13248,
-    -11576,
-    -9624,
-    -7432,
-    -5064,
-    -2560,
+    0, 2560, 5064, 7432, 9624, 11576, 13248, 14592, 15576, 16176, 16376, 16176, 15576, 14592,
+    13248, 11576, 9624, 7432, 5064, 2560, 0, -2560, -5064, -7432, -9624, -11576, -13248, -14592,
+    -15576, -16176, -16376, -16176, -15576, -14592, -13248, -11576, -9624, -7432, -5064, -2560,
 ];
 
 // Two mutes are silence, and a single mute is read as 1.
-pub impl From<(Element, Element)> for Tone as ToneFromElements {
-    ghost converts = { λ pair r. r ≡ tone-of (pair .0) (pair .1) };
+impl From<(Element, Element)> for Tone {
+    ghost from_gives = { λ pair r. r ≡ tone_of pair.0 pair.1 };
 
     fn from(pair: (Element, Element)) -> Tone {
         match pair {
@@ -97,7 +53,7 @@ pub impl From<(Element, Element)> for Tone as ToneFromElements {
 impl Tone {
     // Its frequency in hertz, 0 for silence.
     pub fn frequency(self) -> u16
-        ensures { λ r. ⌜ r ≡ hertz self ⌝ }
+        ensures { result ≡ hertz self }
     {
         match self {
             Tone::Silence => 0,
@@ -110,15 +66,15 @@ impl Tone {
 
     // How many steps of the period one sample goes on.
     fn stride(self) -> usize
-        ensures { λ r. ⌜ r ≡ hertz self / 200 ⌝ }
+        ensures { result ≡ hertz self / 200 }
     {
         (self.frequency() / STEP_HERTZ) as usize
     }
 
     // Its sample k. Each frame starts at the start of the period.
     fn sample(self, k: usize) -> i16
-        requires { ⌜ k < 40 ⌝ }
-        ensures { λ r. ⌜ r ≡ tone-sample self k ⌝ }
+        requires { k < 40 }
+        ensures { result ≡ tone_sample self k }
     {
         PERIOD[self.stride() * k % PERIOD_STEPS]
     }
@@ -126,8 +82,8 @@ impl Tone {
 
 // Writes the samples of a tone into the places of its frame.
 fn play_frame(tone: Tone, frame: &mut [i16])
-    requires { ⌜ length (now frame) ≡ 40 ⌝ }
-    ensures { λ _. ⌜ now (frame .exit) ≡ map (tone-sample tone) (counting 0 40) ⌝ }
+    requires { length frame.old ≡ 40 }
+    ensures { frame.new ≡ map (tone_sample tone) (range_with_len 0 40) }
 {
     for k in 0..FRAME_SAMPLES {
         frame[k] = tone.sample(k);
@@ -136,7 +92,7 @@ fn play_frame(tone: Tone, frame: &mut [i16])
 
 // How many samples the elements have. Where no memory could hold them, every memory is too short.
 pub fn sample_count(elements: &[u8]) -> Result<usize, Refusal>
-    ensures { λ r. ⌜ r ≡ play-answer (now (elements .entry)) longest-memory ⌝ }
+    ensures { result ≡ play_answer elements.now longest_memory }
 {
     check_elements(elements)?;
     let frames = elements.len() / FRAME_ELEMENTS;
@@ -148,8 +104,8 @@ pub fn sample_count(elements: &[u8]) -> Result<usize, Refusal>
 
 // Writes the samples of the elements into the first places of `out` and returns how many there are.
 pub fn play(elements: &[u8], out: &mut [i16]) -> Result<usize, Refusal>
-    ensures answer { λ r. ⌜ r ≡ play-answer (now (elements .entry)) (length (now (out .entry))) ⌝ }
-    ensures memory { λ r. ⌜ now (out .exit) ≡ after r (samples (now (elements .entry))) (now (out .entry)) ⌝ }
+    ensures answer { result ≡ play_answer elements.now (length out.old) }
+    ensures memory { out.new ≡ after result (samples elements.now) out.old }
 {
     let count = sample_count(elements)?;
     if out.len() < count {

@@ -1,24 +1,17 @@
 // The transmitter: a text to its burst.
-ghost use mathlib.Core.Path.{_≡_};
-ghost use mathlib.Core.List.{map};
-ghost use lib.ListN.{length};
-ghost use Rattle·std.specs.declared.result.Result.the-variants.{Ok};
-ghost use Rattle·refusal.specs.Answer.{after};
-ghost use Rattle·stage.specs.Elements.{octet-of, evaluated};
-ghost use Rattle·stage.specs.Burst.{burst, entering};
-ghost use Rattle·transmitter·specs.Write.{burst-answer, Evaluable};
-use code::coded_bit;
-use code::coded_count;
+ghost use Rattle.std.specs.Prelude.{◌≡◌, map, length, Ok};
+ghost use Rattle.refusal.specs.Answer.{after};
+ghost use Rattle.stage.specs.Elements.{octet_of, evaluated};
+ghost use Rattle.stage.specs.Burst.{burst, entering};
+ghost use Rattle.transmitter.specs.Write.{burst_answer, Evaluable};
+
+use code::{coded_bit, coded_count};
 use refusal::Refusal;
-use stage::Content;
-use stage::Element;
-use stage::ElementFromBit;
-use stage::OctetFromElement;
-use stage::Stage;
+use stage::{Content, Element, Stage};
 
 // The element that a content stands for when the text's coded bits enter the stage.
 fn element(content: Content, text: &[u8]) -> Result<Element, Refusal>
-    ensures { λ r. ⌜ (Evaluable (now (text .entry)) content → r ≡ Ok (evaluated (entering (now (text .entry))) content)) ⌝ }
+    ensures { Evaluable text.now content → result ≡ Ok (evaluated (entering text.now) content) }
 {
     match content {
         Content::Carried(i) => Ok(Element::from(coded_bit(text, i)?)),
@@ -31,8 +24,8 @@ fn element(content: Content, text: &[u8]) -> Result<Element, Refusal>
 // Writes the burst of the text through the stage into the first places of `out`, an octet for each element, and returns
 // its length.
 pub fn write<S: Stage>(stage: &S, text: &[u8], out: &mut [u8]) -> Result<usize, Refusal>
-    ensures answer { λ r. ⌜ r ≡ burst-answer (S·Stage .meaning (now (stage .entry))) (now (text .entry)) (length (now (out .entry))) ⌝ }
-    ensures memory { λ r. ⌜ now (out .exit) ≡ after r (map octet-of (burst (S·Stage .meaning (now (stage .entry))) (now (text .entry)))) (now (out .entry)) ⌝ }
+    ensures answer { result ≡ burst_answer (S.Stage.meaning stage.now) text.now (length out.old) }
+    ensures memory { out.new ≡ after result (map octet_of (burst (S.Stage.meaning stage.now) text.now)) out.old }
 {
     let n = coded_count(text.len())?;
     let length = stage.length(n)?;

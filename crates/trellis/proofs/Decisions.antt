@@ -1,180 +1,171 @@
 -- The decision bits of a step, and what each state takes, gathered state by state.
-use mathlib.Core.Bool.{Bool, true, false, cond, xor}
-use mathlib.Core.Logic.{⊎-elim}
-use mathlib.Core.List.{List, [], _∷_}
-use mathlib.Core.Path.{_≡_, refl, sym, ap, subst, _∙_}
-use Prim.Native.Nat.{ℕ, zero, suc, _+_, _-_, _*_, _/_, _%_, _^_, _<_, _≤_}
-use native.Mathlib.Nat.{pow-suc, add-mul-div-right, add-mul-mod-self-right, div-eq-of-lt, mod-eq-of-lt, add-comm, mul-comm}
-use native.Mathlib.Numerals.{add-one}
-use native.Mathlib.Omega.{arith}
-use lib.Dec.{ltb, lit<}
-use lib.ListN.{length, getD, set, length-set}
-use lib.Seq.{getD-set-same, getD-set-other}
-use mir.Val.{boolByte}
-use lib.Pow.{pow-pos, pow-add}
-use Rattle·std.proofs.shelf.Tests.{cases-lt}
-use Rattle·std.proofs.shelf.Bits.{shr-shr, pow-below}
-use Rattle·code.specs.States.{bit-number, sent}
-use Rattle·code.proofs.Nibbles.{nibble-below}
-use Rattle·trellis·specs.Trellis.{bits-of, label, candidate, Chosen}
+use Rattle.std.proofs.Common.{◌≡◌, ℕ, zero, suc, ◌+◌, ◌-◌, ◌*◌, ◌/◌, ◌%◌, ◌^◌, ◌<◌, ◌≤◌, Bool, true, false, cond, ltb, List, [], ◌∷◌, length, get_or, set, sym, refl, ap, ◌∙◌, subst, ⊎_elim, mod-eq_of_lt, mul_comm, add_comm, pow-suc, add-one, arith, lit<, length-set, get_or-set_other, get_or-set_same, pow_pos, pow-add}
+use mathlib.Core.Bool.{xor}
+use native.Mathlib.Nat.{add-mul-div_right, add-mul-mod_self_right, div-eq_of_lt}
+use mir.Val.{bool_byte}
+use Rattle.std.proofs.lemmas.Bool.{cases_lt}
+use Rattle.std.proofs.lemmas.Nat.{shr-shr, pow_below}
+use Rattle.code.specs.States.{bit_number, sent}
+use Rattle.code.proofs.Nibbles.{nibble_below}
+use Rattle.trellis.specs.Trellis.{bits_of, label, candidate, Chosen}
 
 -- a bit put on top leaves those below it
-bit-kept : (acc x t j : ℕ) → t < j → (acc + x * 2 ^ j) / 2 ^ t % 2 ≡ acc / 2 ^ t % 2
-bit-kept acc x t j l =
+bit_kept : (acc x t j : ℕ) → t < j → (acc + x * 2 ^ j) / 2 ^ t % 2 ≡ acc / 2 ^ t % 2
+bit_kept acc x t j l =
     let p : 2 ^ j ≡ 2 ^ (j - suc t) * 2 ^ suc t = ap (λ n. 2 ^ n) (omega arith) ∙ pow-add 2 (j - suc t) (suc t) in
     let e : x * 2 ^ j ≡ x * 2 ^ (j - suc t) * 2 * 2 ^ t = rw (p, pow-suc 2 t) (omega arith) in
     let d : (acc + x * 2 ^ j) / 2 ^ t ≡ acc / 2 ^ t + x * 2 ^ (j - suc t) * 2 =
-    ap (λ n. (acc + n) / 2 ^ t) e ∙ add-mul-div-right acc (x * 2 ^ (j - suc t) * 2) (pow-pos t) in
-    ap (λ n. n % 2) d ∙ add-mul-mod-self-right (acc / 2 ^ t) (x * 2 ^ (j - suc t)) 2
+    ap (λ n. (acc + n) / 2 ^ t) e ∙ add-mul-div_right acc (x * 2 ^ (j - suc t) * 2) (pow_pos t) in
+    ap (λ n. n % 2) d ∙ add-mul-mod_self_right (acc / 2 ^ t) (x * 2 ^ (j - suc t)) 2
 
-bit-new : (acc x j : ℕ) → acc < 2 ^ j → x < 2 → (acc + x * 2 ^ j) / 2 ^ j % 2 ≡ x
-bit-new acc x j h l =
-    ap (λ n. n % 2) (add-mul-div-right acc x (pow-pos j) ∙ ap (λ n. n + x) (div-eq-of-lt h)) ∙ omega arith
+bit_new : (acc x j : ℕ) → acc < 2 ^ j → x < 2 → (acc + x * 2 ^ j) / 2 ^ j % 2 ≡ x
+bit_new acc x j h l =
+    ap (λ n. n % 2) (add-mul-div_right acc x (pow_pos j) ∙ ap (λ n. n + x) (div-eq_of_lt h)) ∙ omega arith
 
 -- state s took the cheaper of its candidates, and bit t of a number says which
 abbrev pub Taken : List ℕ → List ℕ → List ℕ → ℕ → ℕ → ℕ → Type 0
 Taken metrics costs next acc t s =
-    (getD next s 0 ≡ cond (ltb (candidate metrics costs s 1) (candidate metrics costs s 0)) (candidate metrics costs s 1) (candidate metrics costs s 0))
-    × (acc / 2 ^ t % 2 ≡ bit-number (ltb (candidate metrics costs s 1) (candidate metrics costs s 0)))
+    (get_or next s 0 ≡ cond (ltb (candidate metrics costs s 1) (candidate metrics costs s 0)) (candidate metrics costs s 1) (candidate metrics costs s 0))
+    × (acc / 2 ^ t % 2 ≡ bit_number (ltb (candidate metrics costs s 1) (candidate metrics costs s 0)))
 
 -- the two halves of the decisions, joined
 pub joined : (metrics costs next : List ℕ) (low high : ℕ) → low < 2 ^ 8
     → ((t : ℕ) → t < 8 → Taken metrics costs next low t t) → ((t : ℕ) → t < 8 → Taken metrics costs next high t (t + 8))
     → (s : ℕ) → s < 16 → Chosen metrics costs next (low + 256 * high) s
-joined metrics costs next low high h lows highs s l = ⊎-elim below above (cases-lt s 8)
+joined metrics costs next low high h lows highs s l = ⊎_elim below above (cases_lt s 8)
   where
     below : s < 8 → Chosen metrics costs next (low + 256 * high) s
-    below g = (lows s g .0, ap (λ n. (low + n) / 2 ^ s % 2) (mul-comm 256 high) ∙ (bit-kept low high s 8 g ∙ lows s g .1))
+    below g = ((lows s g).0, ap (λ n. (low + n) / 2 ^ s % 2) (mul_comm 256 high) ∙ (bit_kept low high s 8 g ∙ (lows s g).1))
 
     shifted : (t : ℕ) → (low + 256 * high) / 2 ^ (t + 8) ≡ high / 2 ^ t
     shifted t =
         let d : (low + 256 * high) / 2 ^ 8 ≡ high = omega arith in
-        ap (λ k. (low + 256 * high) / 2 ^ k) (add-comm t 8) ∙ (sym (shr-shr (low + 256 * high) 8 t) ∙ ap (λ n. n / 2 ^ t) d)
+        ap (λ k. (low + 256 * high) / 2 ^ k) (add_comm t 8) ∙ (sym (shr-shr (low + 256 * high) 8 t) ∙ ap (λ n. n / 2 ^ t) d)
 
-    above-at : (t : ℕ) → t < 8 → Chosen metrics costs next (low + 256 * high) (t + 8)
-    above-at t g = (highs t g .0, ap (λ n. n % 2) (shifted t) ∙ highs t g .1)
+    above_at : (t : ℕ) → t < 8 → Chosen metrics costs next (low + 256 * high) (t + 8)
+    above_at t g = ((highs t g).0, ap (λ n. n % 2) (shifted t) ∙ (highs t g).1)
 
     above : 8 ≤ s → Chosen metrics costs next (low + 256 * high) s
-    above g = let e : s - 8 + 8 ≡ s = omega arith in subst (λ n. Chosen metrics costs next (low + 256 * high) n) e (above-at (s - 8) (omega arith))
+    above g = let e : s - 8 + 8 ≡ s = omega arith in subst (λ n. Chosen metrics costs next (low + 256 * high) n) e (above_at (s - 8) (omega arith))
 
-pub label-below : (v : ℕ) → label v < 16
-label-below v = nibble-below (sent (bits-of v) 0) (sent (bits-of v) 1) (sent (bits-of v) 2) (sent (bits-of v) 3)
+pub label_below : (v : ℕ) → label v < 16
+label_below v = nibble_below (sent (bits_of v) 0) (sent (bits_of v) 1) (sent (bits_of v) 2) (sent (bits_of v) 3)
 
 -- the labels of the branches from the states 0, 2, 4 and so on with a new 0
-pub labels-are : (j : ℕ) → j < 8 → getD {A = ℕ} (0 ∷ 14 ∷ 11 ∷ 5 ∷ 12 ∷ 2 ∷ 7 ∷ 9 ∷ []) j 0 ≡ label (2 * j)
+pub labels_are : (j : ℕ) → j < 8 → get_or {A = ℕ} (0 ∷ 14 ∷ 11 ∷ 5 ∷ 12 ∷ 2 ∷ 7 ∷ 9 ∷ []) j 0 ≡ label (2 * j)
 unfolding xor
-labels-are zero h = refl
-labels-are (suc zero) h = refl
-labels-are (suc (suc zero)) h = refl
-labels-are (suc (suc (suc zero))) h = refl
-labels-are (suc (suc (suc (suc zero)))) h = refl
-labels-are (suc (suc (suc (suc (suc zero))))) h = refl
-labels-are (suc (suc (suc (suc (suc (suc zero)))))) h = refl
-labels-are (suc (suc (suc (suc (suc (suc (suc zero))))))) h = refl
-labels-are (suc (suc (suc (suc (suc (suc (suc (suc j)))))))) h = absurd (omega arith)
+labels_are zero h = refl
+labels_are (suc zero) h = refl
+labels_are (suc (suc zero)) h = refl
+labels_are (suc (suc (suc zero))) h = refl
+labels_are (suc (suc (suc (suc zero)))) h = refl
+labels_are (suc (suc (suc (suc (suc zero))))) h = refl
+labels_are (suc (suc (suc (suc (suc (suc zero)))))) h = refl
+labels_are (suc (suc (suc (suc (suc (suc (suc zero))))))) h = refl
+labels_are (suc (suc (suc (suc (suc (suc (suc (suc j)))))))) h = absurd (omega arith)
 
 -- a new 1 inverts all four coded bits, and so does a 1 that drops out
 record Inverts (j : ℕ) : Type 0 where
-  zero-one : label (2 * j + 16) ≡ 15 - label (2 * j)
-  one-zero : label (2 * j + 1) ≡ 15 - label (2 * j)
-  one-one : label (2 * j + 17) ≡ label (2 * j)
+  zero_one : label (2 * j + 16) ≡ 15 - label (2 * j)
+  one_zero : label (2 * j + 1) ≡ 15 - label (2 * j)
+  one_one : label (2 * j + 17) ≡ label (2 * j)
 
 inverts : (j : ℕ) → j < 8 → Inverts j
 unfolding xor
-inverts zero h = record { zero-one = refl; one-zero = refl; one-one = refl }
-inverts (suc zero) h = record { zero-one = refl; one-zero = refl; one-one = refl }
-inverts (suc (suc zero)) h = record { zero-one = refl; one-zero = refl; one-one = refl }
-inverts (suc (suc (suc zero))) h = record { zero-one = refl; one-zero = refl; one-one = refl }
-inverts (suc (suc (suc (suc zero)))) h = record { zero-one = refl; one-zero = refl; one-one = refl }
-inverts (suc (suc (suc (suc (suc zero))))) h = record { zero-one = refl; one-zero = refl; one-one = refl }
-inverts (suc (suc (suc (suc (suc (suc zero)))))) h = record { zero-one = refl; one-zero = refl; one-one = refl }
-inverts (suc (suc (suc (suc (suc (suc (suc zero))))))) h = record { zero-one = refl; one-zero = refl; one-one = refl }
+inverts zero h = record { zero_one = refl; one_zero = refl; one_one = refl }
+inverts (suc zero) h = record { zero_one = refl; one_zero = refl; one_one = refl }
+inverts (suc (suc zero)) h = record { zero_one = refl; one_zero = refl; one_one = refl }
+inverts (suc (suc (suc zero))) h = record { zero_one = refl; one_zero = refl; one_one = refl }
+inverts (suc (suc (suc (suc zero)))) h = record { zero_one = refl; one_zero = refl; one_one = refl }
+inverts (suc (suc (suc (suc (suc zero))))) h = record { zero_one = refl; one_zero = refl; one_one = refl }
+inverts (suc (suc (suc (suc (suc (suc zero)))))) h = record { zero_one = refl; one_zero = refl; one_one = refl }
+inverts (suc (suc (suc (suc (suc (suc (suc zero))))))) h = record { zero_one = refl; one_zero = refl; one_one = refl }
 inverts (suc (suc (suc (suc (suc (suc (suc (suc j)))))))) h = absurd (omega arith)
 
 -- the candidates of states j and j + 8
 module _ (metrics costs : List ℕ) (j : ℕ) (h : j < 8) where
-  at : (s d p q : ℕ) → 2 * (s % 8) + d ≡ p → label (2 * (s % 8) + d + 16 * (s / 8)) ≡ q → candidate metrics costs s d ≡ getD metrics p 0 + getD costs q 0
-  at s d p q e f = let a = ap (λ n. getD metrics n 0) e in let b = ap (λ n. getD costs n 0) f in omega arith
+  at : (s d p q : ℕ) → 2 * (s % 8) + d ≡ p → label (2 * (s % 8) + d + 16 * (s / 8)) ≡ q → candidate metrics costs s d ≡ get_or metrics p 0 + get_or costs q 0
+  at s d p q e f = let a = ap (λ n. get_or metrics n 0) e in let b = ap (λ n. get_or costs n 0) f in omega arith
 
-  low-zero : candidate metrics costs j 0 ≡ getD metrics (2 * j) 0 + getD costs (label (2 * j)) 0
-  low-zero = at j 0 (2 * j) _ (omega arith) (ap label (omega arith))
+  low_zero : candidate metrics costs j 0 ≡ get_or metrics (2 * j) 0 + get_or costs (label (2 * j)) 0
+  low_zero = at j 0 (2 * j) _ (omega arith) (ap label (omega arith))
 
-  low-one : candidate metrics costs j 1 ≡ getD metrics (2 * j + 1) 0 + getD costs (15 - label (2 * j)) 0
-  low-one = at j 1 (2 * j + 1) _ (omega arith) (ap label (omega arith) ∙ inverts j h .one-zero)
+  low_one : candidate metrics costs j 1 ≡ get_or metrics (2 * j + 1) 0 + get_or costs (15 - label (2 * j)) 0
+  low_one = at j 1 (2 * j + 1) _ (omega arith) (ap label (omega arith) ∙ (inverts j h).one_zero)
 
-  high-zero : candidate metrics costs (j + 8) 0 ≡ getD metrics (2 * j) 0 + getD costs (15 - label (2 * j)) 0
-  high-zero = at (j + 8) 0 (2 * j) _ (omega arith) (ap label (omega arith) ∙ inverts j h .zero-one)
+  high_zero : candidate metrics costs (j + 8) 0 ≡ get_or metrics (2 * j) 0 + get_or costs (15 - label (2 * j)) 0
+  high_zero = at (j + 8) 0 (2 * j) _ (omega arith) (ap label (omega arith) ∙ (inverts j h).zero_one)
 
-  high-one : candidate metrics costs (j + 8) 1 ≡ getD metrics (2 * j + 1) 0 + getD costs (label (2 * j)) 0
-  high-one = at (j + 8) 1 (2 * j + 1) _ (omega arith) (ap label (omega arith) ∙ inverts j h .one-one)
+  high_one : candidate metrics costs (j + 8) 1 ≡ get_or metrics (2 * j + 1) 0 + get_or costs (label (2 * j)) 0
+  high_one = at (j + 8) 1 (2 * j + 1) _ (omega arith) (ap label (omega arith) ∙ (inverts j h).one_one)
 
-byte-below : (b : Bool) → boolByte b < 2
-byte-below true = lit< tt
-byte-below false = lit< tt
+byte_below : (b : Bool) → bool_byte b < 2
+byte_below true = lit< tt
+byte_below false = lit< tt
 
-byte-one : (b : Bool) → boolByte b ≡ bit-number b
-byte-one true = refl
-byte-one false = refl
+byte_one : (b : Bool) → bool_byte b ≡ bit_number b
+byte_one true = refl
+byte_one false = refl
 
 -- a bit, shifted to place j, fits 16 bits
-shifted-bit : (b : Bool) (j : ℕ) → j < 8 → boolByte b * 2 ^ j % 65536 ≡ boolByte b * 2 ^ j
-shifted-bit b j h =
-    let p = pow-below j 8 h in
-    let l : boolByte b * 2 ^ j < 65536 = go b p in
-    mod-eq-of-lt l
+shifted_bit : (b : Bool) (j : ℕ) → j < 8 → bool_byte b * 2 ^ j % 65536 ≡ bool_byte b * 2 ^ j
+shifted_bit b j h =
+    let p = pow_below j 8 h in
+    let l : bool_byte b * 2 ^ j < 65536 = go b p in
+    mod-eq_of_lt l
   where
-    go : (b : Bool) → 2 ^ j < 256 → boolByte b * 2 ^ j < 65536
+    go : (b : Bool) → 2 ^ j < 256 → bool_byte b * 2 ^ j < 65536
     go true p = omega arith
     go false p = omega arith
 
 -- one more decision bit
-pub acc-below : (acc j : ℕ) (b : Bool) → j < 8 → acc < 2 ^ j → acc + boolByte b * 2 ^ j % 65536 < 2 ^ (j + 1)
-acc-below acc j b h l = rw (shifted-bit b j h, add-one j) (go b)
+pub acc_below : (acc j : ℕ) (b : Bool) → j < 8 → acc < 2 ^ j → acc + bool_byte b * 2 ^ j % 65536 < 2 ^ (j + 1)
+acc_below acc j b h l = rw (shifted_bit b j h, add-one j) (go b)
   where
-    go : (b : Bool) → acc + boolByte b * 2 ^ j < 2 ^ suc j
+    go : (b : Bool) → acc + bool_byte b * 2 ^ j < 2 ^ suc j
     go true = let p = pow-suc 2 j in omega arith
     go false = let p = pow-suc 2 j in omega arith
 
 -- one turn: state s takes its candidate, where those taken before are kept
 module _ (metrics costs next after : List ℕ) (acc j : ℕ) (place : ℕ → ℕ) (h : j < 8) (l : acc < 2 ^ j)
     (taken : (t : ℕ) → t < j → Taken metrics costs next acc t (place t))
-    (kept : (t : ℕ) → t < j → getD after (place t) 0 ≡ getD next (place t) 0)
-    (x z o : ℕ) (b : Bool) (new : getD after (place j) 0 ≡ x) (is : x ≡ cond (ltb o z) o z) (which : b ≡ ltb o z)
+    (kept : (t : ℕ) → t < j → get_or after (place t) 0 ≡ get_or next (place t) 0)
+    (x z o : ℕ) (b : Bool) (new : get_or after (place j) 0 ≡ x) (is : x ≡ cond (ltb o z) o z) (which : b ≡ ltb o z)
     (zeros : candidate metrics costs (place j) 0 ≡ z) (ones : candidate metrics costs (place j) 1 ≡ o) where
-  pub taken-more : (t : ℕ) → t < j + 1 → Taken metrics costs after (acc + boolByte b * 2 ^ j % 65536) t (place t)
-  taken-more t g = ⊎-elim old (λ e. let q : j ≡ t = omega arith in subst (λ n. Taken metrics costs after (acc + boolByte b * 2 ^ j % 65536) n (place n)) q here) (cases-lt t j)
+  pub taken_more : (t : ℕ) → t < j + 1 → Taken metrics costs after (acc + bool_byte b * 2 ^ j % 65536) t (place t)
+  taken_more t g = ⊎_elim old (λ e. let q : j ≡ t = omega arith in subst (λ n. Taken metrics costs after (acc + bool_byte b * 2 ^ j % 65536) n (place n)) q here) (cases_lt t j)
     where
-      sum : acc + boolByte b * 2 ^ j % 65536 ≡ acc + boolByte b * 2 ^ j
-      sum = ap (λ n. acc + n) (shifted-bit b j h)
+      sum : acc + bool_byte b * 2 ^ j % 65536 ≡ acc + bool_byte b * 2 ^ j
+      sum = ap (λ n. acc + n) (shifted_bit b j h)
 
-      old : t < j → Taken metrics costs after (acc + boolByte b * 2 ^ j % 65536) t (place t)
-      old p = (kept t p ∙ taken t p .0, ap (λ n. n / 2 ^ t % 2) sum ∙ (bit-kept acc (boolByte b) t j p ∙ taken t p .1))
+      old : t < j → Taken metrics costs after (acc + bool_byte b * 2 ^ j % 65536) t (place t)
+      old p = (kept t p ∙ (taken t p).0, ap (λ n. n / 2 ^ t % 2) sum ∙ (bit_kept acc (bool_byte b) t j p ∙ (taken t p).1))
 
       test : ltb o z ≡ ltb (candidate metrics costs (place j) 1) (candidate metrics costs (place j) 0)
       test = cc
 
-      here : Taken metrics costs after (acc + boolByte b * 2 ^ j % 65536) j (place j)
-      here = (new ∙ (is ∙ cc), ap (λ n. n / 2 ^ j % 2) sum ∙ (bit-new acc (boolByte b) j l (byte-below b) ∙ (byte-one b ∙ ap bit-number (which ∙ test))))
+      here : Taken metrics costs after (acc + bool_byte b * 2 ^ j % 65536) j (place j)
+      here = (new ∙ (is ∙ cc), ap (λ n. n / 2 ^ j % 2) sum ∙ (bit_new acc (bool_byte b) j l (byte_below b) ∙ (byte_one b ∙ ap bit_number (which ∙ test))))
 
 -- one turn of the step: both states
 pub turn : (metrics costs next : List ℕ) (low high j q : ℕ) → j < 8 → q ≡ label (2 * j) → low < 2 ^ j → high < 2 ^ j → length next ≡ 16
     → ((t : ℕ) → t < j → Taken metrics costs next low t t) → ((t : ℕ) → t < j → Taken metrics costs next high t (t + 8))
     → (x y : ℕ) (b c : Bool)
-    → x ≡ cond (ltb (getD metrics (2 * j + 1) 0 + getD costs (15 - q) 0) (getD metrics (2 * j) 0 + getD costs q 0)) (getD metrics (2 * j + 1) 0 + getD costs (15 - q) 0) (getD metrics (2 * j) 0 + getD costs q 0)
-    → b ≡ ltb (getD metrics (2 * j + 1) 0 + getD costs (15 - q) 0) (getD metrics (2 * j) 0 + getD costs q 0)
-    → y ≡ cond (ltb (getD metrics (2 * j + 1) 0 + getD costs q 0) (getD metrics (2 * j) 0 + getD costs (15 - q) 0)) (getD metrics (2 * j + 1) 0 + getD costs q 0) (getD metrics (2 * j) 0 + getD costs (15 - q) 0)
-    → c ≡ ltb (getD metrics (2 * j + 1) 0 + getD costs q 0) (getD metrics (2 * j) 0 + getD costs (15 - q) 0)
-    → ((t : ℕ) → t < j + 1 → Taken metrics costs (set (set next j x) (j + 8) y) (low + boolByte b * 2 ^ j % 65536) t t)
-    × ((t : ℕ) → t < j + 1 → Taken metrics costs (set (set next j x) (j + 8) y) (high + boolByte c * 2 ^ j % 65536) t (t + 8))
+    → x ≡ cond (ltb (get_or metrics (2 * j + 1) 0 + get_or costs (15 - q) 0) (get_or metrics (2 * j) 0 + get_or costs q 0)) (get_or metrics (2 * j + 1) 0 + get_or costs (15 - q) 0) (get_or metrics (2 * j) 0 + get_or costs q 0)
+    → b ≡ ltb (get_or metrics (2 * j + 1) 0 + get_or costs (15 - q) 0) (get_or metrics (2 * j) 0 + get_or costs q 0)
+    → y ≡ cond (ltb (get_or metrics (2 * j + 1) 0 + get_or costs q 0) (get_or metrics (2 * j) 0 + get_or costs (15 - q) 0)) (get_or metrics (2 * j + 1) 0 + get_or costs q 0) (get_or metrics (2 * j) 0 + get_or costs (15 - q) 0)
+    → c ≡ ltb (get_or metrics (2 * j + 1) 0 + get_or costs q 0) (get_or metrics (2 * j) 0 + get_or costs (15 - q) 0)
+    → ((t : ℕ) → t < j + 1 → Taken metrics costs (set (set next j x) (j + 8) y) (low + bool_byte b * 2 ^ j % 65536) t t)
+    × ((t : ℕ) → t < j + 1 → Taken metrics costs (set (set next j x) (j + 8) y) (high + bool_byte c * 2 ^ j % 65536) t (t + 8))
 turn metrics costs next low high j q h is ll lh len lows highs x y b c ix ib iy ic = (
-  taken-more metrics costs next (set (set next j x) (j + 8) y) low j (λ t. t) h ll lows
-      (λ t p. getD-set-other (set next j x) (j + 8) t y 0 (omega arith) ∙ getD-set-other next j t x 0 (omega arith))
+  taken_more metrics costs next (set (set next j x) (j + 8) y) low j (λ t. t) h ll lows
+      (λ t p. get_or-set_other (set next j x) (j + 8) t y 0 (omega arith) ∙ get_or-set_other next j t x 0 (omega arith))
       x _ _ b
-      (getD-set-other (set next j x) (j + 8) j y 0 (omega arith) ∙ getD-set-same next j x 0 (omega arith))
-      ix ib (low-zero metrics costs j h ∙ ap (λ n. getD metrics (2 * j) 0 + getD costs n 0) (sym is)) (low-one metrics costs j h ∙ ap (λ n. getD metrics (2 * j + 1) 0 + getD costs (15 - n) 0) (sym is)),
-  taken-more metrics costs next (set (set next j x) (j + 8) y) high j (λ t. t + 8) h lh highs
-      (λ t p. getD-set-other (set next j x) (j + 8) (t + 8) y 0 (omega arith) ∙ getD-set-other next j (t + 8) x 0 (omega arith))
+      (get_or-set_other (set next j x) (j + 8) j y 0 (omega arith) ∙ get_or-set_same next j x 0 (omega arith))
+      ix ib (low_zero metrics costs j h ∙ ap (λ n. get_or metrics (2 * j) 0 + get_or costs n 0) (sym is)) (low_one metrics costs j h ∙ ap (λ n. get_or metrics (2 * j + 1) 0 + get_or costs (15 - n) 0) (sym is)),
+  taken_more metrics costs next (set (set next j x) (j + 8) y) high j (λ t. t + 8) h lh highs
+      (λ t p. get_or-set_other (set next j x) (j + 8) (t + 8) y 0 (omega arith) ∙ get_or-set_other next j (t + 8) x 0 (omega arith))
       y _ _ c
-      (getD-set-same (set next j x) (j + 8) y 0 (omega (arith, length-set next j x)))
-      iy ic (high-zero metrics costs j h ∙ ap (λ n. getD metrics (2 * j) 0 + getD costs (15 - n) 0) (sym is)) (high-one metrics costs j h ∙ ap (λ n. getD metrics (2 * j + 1) 0 + getD costs n 0) (sym is)),
+      (get_or-set_same (set next j x) (j + 8) y 0 (omega (arith, length-set next j x)))
+      iy ic (high_zero metrics costs j h ∙ ap (λ n. get_or metrics (2 * j) 0 + get_or costs (15 - n) 0) (sym is)) (high_one metrics costs j h ∙ ap (λ n. get_or metrics (2 * j + 1) 0 + get_or costs n 0) (sym is)),
 )

@@ -1,43 +1,38 @@
 -- The path that the decisions lead back to, and one step of the search.
-use mathlib.Core.Bool.{Bool, true, false, cond}
-use mathlib.Core.List.{List, [], _∷_}
-use mathlib.Core.Path.{_≡_, refl, sym, ap, subst, _∙_}
-use Prim.Native.Nat.{ℕ, zero, suc, _+_, _*_, _/_, _%_, _^_, _<_, _≤_}
-use native.Mathlib.Nat.{add-zero, div-one}
-use native.Mathlib.Omega.{arith}
-use lib.Dec.{eqb, ltb, eqb·suc-zero}
-use lib.ListN.{getD, replicate, getD-replicate}
-use Rattle·std.proofs.shelf.Tests.{eq-eqb, ne-eqb, ltb-true, ltb-false, cond-true, cond-false}
-use Rattle·code.specs.States.{bit-number, nibble, four-on, state, sent}
-use Rattle·code.proofs.Nibbles.{bit-number-le, bit-number-once, bit-number-eqb, nibble-below, nibble-bits, nibble-of, odd-is}
-use Rattle·code.proofs.States.{Agree, state-agree}
-use Rattle·trellis·specs.Trellis.{begin-cost, four-cost, branch-cost, path-cost, path-number, Survivor, put, back, four-back, path-octet, traced, label-cost, bits-of, label, candidate, Chosen}
-use Rattle·trellis·proofs.Decisions.{label-below}
-use Rattle·trellis·proofs.Paths.{cost-agree, survivor-agree, cost-suc, first-survives, second-survives}
+use Rattle.std.proofs.Common.{◌≡◌, ℕ, zero, suc, ◌+◌, ◌*◌, ◌/◌, ◌%◌, ◌^◌, ◌<◌, ◌≤◌, Bool, true, false, cond, eqb, ltb, List, [], ◌∷◌, get_or, replicate, sym, refl, ap, ◌∙◌, subst, add-zero, div-one, arith}
+use lib.Dec.{eqb-suc-zero}
+use lib.ListN.{get_or-replicate}
+use Rattle.std.proofs.lemmas.Bool.{eq-eqb, ne_eqb, ltb-true, ltb-false, cond-true, cond-false}
+use Rattle.code.specs.States.{bit_number, nibble, four_on, state, sent}
+use Rattle.code.proofs.Nibbles.{bit_number_le, bit_number_once, bit_number_eqb, nibble_below, nibble_bits, nibble_of, odd_is}
+use Rattle.code.proofs.States.{Agree, state_agree}
+use Rattle.trellis.specs.Trellis.{begin_cost, four_cost, branch_cost, path_cost, path_number, Survivor, put, back, four_back, path_octet, traced, label_cost, bits_of, label, candidate, Chosen}
+use Rattle.trellis.proofs.Decisions.{label_below}
+use Rattle.trellis.proofs.Paths.{cost_agree, survivor_agree, cost_suc, first_survives, second_survives}
 
 -- after k steps the decisions lead from each state to its survivor, and the metrics are what the survivors cost
 abbrev pub Survivors : (ℕ → Bool → ℕ) → ℕ → List ℕ → List ℕ → Type 0
 Survivors cost k work metrics =
-    (s : ℕ) → s < 16 → Survivor cost k (traced work k s) × (getD metrics s 0 ≡ path-cost cost k (traced work k s))
+    (s : ℕ) → s < 16 → Survivor cost k (traced work k s) × (get_or metrics s 0 ≡ path_cost cost k (traced work k s))
 
-pub put-same : (c : ℕ → Bool) (n : ℕ) (b : Bool) → put c n b n ≡ b
-put-same c n b = rw (eq-eqb n n refl) refl
+pub put_same : (c : ℕ → Bool) (n : ℕ) (b : Bool) → put c n b n ≡ b
+put_same c n b = rw (eq-eqb n n refl) refl
 
-pub put-below : (c : ℕ → Bool) (n : ℕ) (b : Bool) → Agree n (put c n b) c
-put-below c n b i l = let e : eqb i n ≡ false = ne-eqb i n (omega arith) in rw e refl
+pub put_below : (c : ℕ → Bool) (n : ℕ) (b : Bool) → Agree n (put c n b) c
+put_below c n b i l = let e : eqb i n ≡ false = ne_eqb i n (omega arith) in rw e refl
 
-pub back-below : (s w : ℕ) → back s w < 16
-back-below s w = omega arith
+pub back_below : (s w : ℕ) → back s w < 16
+back_below s w = omega arith
 
 -- a path one step on: its state
-put-state : (x : ℕ → Bool) (k s d : ℕ) → s < 16 → d < 2 → state k x ≡ 2 * (s % 8) + d → state (suc k) (put x (four-on k) (eqb (s / 8) 1)) ≡ s
-put-state x k s d h l e =
-    let c = put x (four-on k) (eqb (s / 8) 1) in
-    let p1 = ap bit-number (put-below x (four-on k) (eqb (s / 8) 1) (suc k) (omega arith)) in
-    let p2 = ap bit-number (put-below x (four-on k) (eqb (s / 8) 1) (suc (suc k)) (omega arith)) in
-    let p3 = ap bit-number (put-below x (four-on k) (eqb (s / 8) 1) (suc (suc (suc k))) (omega arith)) in
-    let p4 = ap bit-number (put-same x (four-on k) (eqb (s / 8) 1)) ∙ bit-number-eqb (s / 8) (omega arith) in
-    let x0 = bit-number-le (x k) in
+put_state : (x : ℕ → Bool) (k s d : ℕ) → s < 16 → d < 2 → state k x ≡ 2 * (s % 8) + d → state (suc k) (put x (four_on k) (eqb (s / 8) 1)) ≡ s
+put_state x k s d h l e =
+    let c = put x (four_on k) (eqb (s / 8) 1) in
+    let p1 = ap bit_number (put_below x (four_on k) (eqb (s / 8) 1) (suc k) (omega arith)) in
+    let p2 = ap bit_number (put_below x (four_on k) (eqb (s / 8) 1) (suc (suc k)) (omega arith)) in
+    let p3 = ap bit_number (put_below x (four_on k) (eqb (s / 8) 1) (suc (suc (suc k))) (omega arith)) in
+    let p4 = ap bit_number (put_same x (four_on k) (eqb (s / 8) 1)) ∙ bit_number_eqb (s / 8) (omega arith) in
+    let x0 = bit_number_le (x k) in
     summed s d _ _ _ _ _ _ _ _ h l x0 e p1 p2 p3 p4
   where
     summed : (s d x0 x1 x2 x3 c1 c2 c3 c4 : ℕ) → s < 16 → d < 2 → x0 ≤ 1 → x0 + 2 * x1 + 4 * x2 + 8 * x3 ≡ 2 * (s % 8) + d
@@ -45,209 +40,209 @@ put-state x k s d h l e =
     summed s d x0 x1 x2 x3 c1 c2 c3 c4 h l x e p1 p2 p3 p4 = omega arith
 
 -- a traced path is in the state that it was traced from
-pub traced-state : (work : List ℕ) (k s : ℕ) → s < 16 → state k (traced work k s) ≡ s
+pub traced_state : (work : List ℕ) (k s : ℕ) → s < 16 → state k (traced work k s) ≡ s
 unfolding traced
-traced-state work zero s h = rw (div-one s) (nibble-of s h)
-traced-state work (suc k) s h =
-    put-state (traced work k (back s (getD work k 0))) k s (getD work k 0 / 2 ^ s % 2) h (omega arith)
-    (traced-state work k (back s (getD work k 0)) (back-below s (getD work k 0)))
+traced_state work zero s h = rw (div-one s) (nibble_of s h)
+traced_state work (suc k) s h =
+    put_state (traced work k (back s (get_or work k 0))) k s (get_or work k 0 / 2 ^ s % 2) h (omega arith)
+    (traced_state work k (back s (get_or work k 0)) (back_below s (get_or work k 0)))
 
 -- one step back: the same path, below its last bit
-pub traced-back : (work : List ℕ) (k s : ℕ) → Agree (four-on k) (traced work (suc k) s) (traced work k (back s (getD work k 0)))
+pub traced_back : (work : List ℕ) (k s : ℕ) → Agree (four_on k) (traced work (suc k) s) (traced work k (back s (get_or work k 0)))
 unfolding traced
-traced-back work k s i l = put-below (traced work k (back s (getD work k 0))) (four-on k) (eqb (s / 8) 1) i l
+traced_back work k s i l = put_below (traced work k (back s (get_or work k 0))) (four_on k) (eqb (s / 8) 1) i l
 
 -- tracing looks at the decisions below k alone
-pub traced-same : (a b : List ℕ) (k s : ℕ) → ((j : ℕ) → j < k → getD a j 0 ≡ getD b j 0) → (i : ℕ) → traced a k s i ≡ traced b k s i
+pub traced_same : (a b : List ℕ) (k s : ℕ) → ((j : ℕ) → j < k → get_or a j 0 ≡ get_or b j 0) → (i : ℕ) → traced a k s i ≡ traced b k s i
 unfolding traced
-traced-same a b zero s h i = refl
-traced-same a b (suc k) s h i =
-    let e : back s (getD a k 0) ≡ back s (getD b k 0) = ap (back s) (h k (omega arith)) in
-    let r = traced-same a b k (back s (getD b k 0)) (λ j l. h j (omega arith)) i in
-    ap (λ x. cond (eqb i (four-on k)) (eqb (s / 8) 1) x) (ap (λ t. traced a k t i) e ∙ r)
+traced_same a b zero s h i = refl
+traced_same a b (suc k) s h i =
+    let e : back s (get_or a k 0) ≡ back s (get_or b k 0) = ap (back s) (h k (omega arith)) in
+    let r = traced_same a b k (back s (get_or b k 0)) (λ j l. h j (omega arith)) i in
+    ap (λ x. cond (eqb i (four_on k)) (eqb (s / 8) 1) x) (ap (λ t. traced a k t i) e ∙ r)
 
 -- the costs by label are the costs of branches
-bits-back : (a b c d e : Bool) → bits-of (nibble a b c d + 16 * bit-number e) ≡ e ∷ d ∷ c ∷ b ∷ a ∷ []
-bits-back a b c d e =
-    let v = nibble a b c d + 16 * bit-number e in
-    let p = nibble-bits a b c d (bit-number e) v refl in
-    let p0 = p .0 in
-    let p1 = p .1 in
-    let p2 = p .2 in
-    let p3 = p .3 in
-    let l = nibble-below a b c d in
-    let le = bit-number-le e in
-    let p4 = odd-is (v / 16) e (omega arith) in
+bits_back : (a b c d e : Bool) → bits_of (nibble a b c d + 16 * bit_number e) ≡ e ∷ d ∷ c ∷ b ∷ a ∷ []
+bits_back a b c d e =
+    let v = nibble a b c d + 16 * bit_number e in
+    let p = nibble_bits a b c d (bit_number e) v refl in
+    let p0 = p.0 in
+    let p1 = p.1 in
+    let p2 = p.2 in
+    let p3 = p.3 in
+    let l = nibble_below a b c d in
+    let le = bit_number_le e in
+    let p4 = odd_is (v / 16) e (omega arith) in
     cc
 
-label-cost-of : (cost : ℕ → Bool → ℕ) (k : ℕ) (p q r s : Bool) → label-cost cost k (nibble p q r s) ≡ four-cost cost k p q r s
-label-cost-of cost k p q r s =
-    let b = nibble-bits p q r s 0 (nibble p q r s) (omega arith) in
-    let b0 = b .0 in
-    let b1 = b .1 in
-    let b2 = b .2 in
-    let b3 = b .3 in
+label_cost_of : (cost : ℕ → Bool → ℕ) (k : ℕ) (p q r s : Bool) → label_cost cost k (nibble p q r s) ≡ four_cost cost k p q r s
+label_cost_of cost k p q r s =
+    let b = nibble_bits p q r s 0 (nibble p q r s) (omega arith) in
+    let b0 = b.0 in
+    let b1 = b.1 in
+    let b2 = b.2 in
+    let b3 = b.3 in
     cc
 
 -- a branch's cost, read off by its label
-branch-label : (cost : ℕ → Bool → ℕ) (k : ℕ) (costs : List ℕ) → ((q : ℕ) → q < 16 → getD costs q 0 ≡ label-cost cost k q)
-    → (c : ℕ → Bool) → getD costs (label (state k c + 16 * bit-number (c (four-on k)))) 0 ≡ branch-cost cost k c
-branch-label cost k costs h c =
-    let w = bits-back (c k) (c (suc k)) (c (suc (suc k))) (c (suc (suc (suc k)))) (c (four-on k)) in
-    let v = state k c + 16 * bit-number (c (four-on k)) in
-    h (label v) (label-below v) ∙ (label-cost-of cost k (sent (bits-of v) 0) (sent (bits-of v) 1) (sent (bits-of v) 2) (sent (bits-of v) 3)
-    ∙ ap (λ u. four-cost cost k (sent u 0) (sent u 1) (sent u 2) (sent u 3)) w)
+branch_label : (cost : ℕ → Bool → ℕ) (k : ℕ) (costs : List ℕ) → ((q : ℕ) → q < 16 → get_or costs q 0 ≡ label_cost cost k q)
+    → (c : ℕ → Bool) → get_or costs (label (state k c + 16 * bit_number (c (four_on k)))) 0 ≡ branch_cost cost k c
+branch_label cost k costs h c =
+    let w = bits_back (c k) (c (suc k)) (c (suc (suc k))) (c (suc (suc (suc k)))) (c (four_on k)) in
+    let v = state k c + 16 * bit_number (c (four_on k)) in
+    h (label v) (label_below v) ∙ (label_cost_of cost k (sent (bits_of v) 0) (sent (bits_of v) 1) (sent (bits_of v) 2) (sent (bits_of v) 3)
+    ∙ ap (λ u. four_cost cost k (sent u 0) (sent u 1) (sent u 2) (sent u 3)) w)
 
 -- one step of the search: where each state takes the cheaper candidate, the survivors go on
 module _ (cost : ℕ → Bool → ℕ) (k : ℕ) (work next metrics costs new : List ℕ) (decisions : ℕ)
-    (survivors : Survivors cost k work metrics) (priced : (q : ℕ) → q < 16 → getD costs q 0 ≡ label-cost cost k q)
-    (kept : (j : ℕ) → j < k → getD next j 0 ≡ getD work j 0) (written : getD next k 0 ≡ decisions)
+    (survivors : Survivors cost k work metrics) (priced : (q : ℕ) → q < 16 → get_or costs q 0 ≡ label_cost cost k q)
+    (kept : (j : ℕ) → j < k → get_or next j 0 ≡ get_or work j 0) (written : get_or next k 0 ≡ decisions)
     (chosen : (s : ℕ) → s < 16 → Chosen metrics costs new decisions s) where
   -- the path that comes to s where d drops out
   abbrev coming : ℕ → ℕ → ℕ → Bool
-  coming s d = put (traced work k (2 * (s % 8) + d)) (four-on k) (eqb (s / 8) 1)
+  coming s d = put (traced work k (2 * (s % 8) + d)) (four_on k) (eqb (s / 8) 1)
 
-  coming-survivor : (s d : ℕ) → s < 16 → d < 2 → Survivor cost k (coming s d)
-  coming-survivor s d h l =
-      survivor-agree cost k (traced work k (2 * (s % 8) + d)) (coming s d)
-      (λ i g. sym (put-below (traced work k (2 * (s % 8) + d)) (four-on k) (eqb (s / 8) 1) i g))
-      (survivors (2 * (s % 8) + d) (omega arith) .0)
+  coming_survivor : (s d : ℕ) → s < 16 → d < 2 → Survivor cost k (coming s d)
+  coming_survivor s d h l =
+      survivor_agree cost k (traced work k (2 * (s % 8) + d)) (coming s d)
+      (λ i g. sym (put_below (traced work k (2 * (s % 8) + d)) (four_on k) (eqb (s / 8) 1) i g))
+      (survivors (2 * (s % 8) + d) (omega arith)).0
 
-  coming-from : (s d : ℕ) → s < 16 → d < 2 → state k (coming s d) ≡ 2 * (s % 8) + d
-  coming-from s d h l =
-      state-agree k (coming s d) (traced work k (2 * (s % 8) + d)) (put-below (traced work k (2 * (s % 8) + d)) (four-on k) (eqb (s / 8) 1))
-      ∙ traced-state work k (2 * (s % 8) + d) (omega arith)
+  coming_from : (s d : ℕ) → s < 16 → d < 2 → state k (coming s d) ≡ 2 * (s % 8) + d
+  coming_from s d h l =
+      state_agree k (coming s d) (traced work k (2 * (s % 8) + d)) (put_below (traced work k (2 * (s % 8) + d)) (four_on k) (eqb (s / 8) 1))
+      ∙ traced_state work k (2 * (s % 8) + d) (omega arith)
 
-  coming-to : (s d : ℕ) → s < 16 → d < 2 → state (suc k) (coming s d) ≡ s
-  coming-to s d h l =
-      put-state (traced work k (2 * (s % 8) + d)) k s d h l (traced-state work k (2 * (s % 8) + d) (omega arith))
+  coming_to : (s d : ℕ) → s < 16 → d < 2 → state (suc k) (coming s d) ≡ s
+  coming_to s d h l =
+      put_state (traced work k (2 * (s % 8) + d)) k s d h l (traced_state work k (2 * (s % 8) + d) (omega arith))
 
-  coming-cost : (s d : ℕ) → s < 16 → d < 2 → path-cost cost (suc k) (coming s d) ≡ candidate metrics costs s d
-  coming-cost s d h l =
+  coming_cost : (s d : ℕ) → s < 16 → d < 2 → path_cost cost (suc k) (coming s d) ≡ candidate metrics costs s d
+  coming_cost s d h l =
       let x = traced work k (2 * (s % 8) + d) in
-      let p = cost-suc cost k (coming s d) in
-      let a = cost-agree cost k (coming s d) x (put-below x (four-on k) (eqb (s / 8) 1)) in
-      let m = survivors (2 * (s % 8) + d) (omega arith) .1 in
-      let b = branch-label cost k costs priced (coming s d) in
-      let f = coming-from s d h l in
-      let g : bit-number (coming s d (four-on k)) ≡ s / 8 = ap bit-number (put-same x (four-on k) (eqb (s / 8) 1)) ∙ bit-number-eqb (s / 8) (omega arith) in
-      let v : state k (coming s d) + 16 * bit-number (coming s d (four-on k)) ≡ 2 * (s % 8) + d + 16 * (s / 8) = omega arith in
-      let e : getD costs (label (state k (coming s d) + 16 * bit-number (coming s d (four-on k)))) 0 ≡ getD costs (label (2 * (s % 8) + d + 16 * (s / 8))) 0 =
-      ap (λ u. getD costs (label u) 0) v in
+      let p = cost_suc cost k (coming s d) in
+      let a = cost_agree cost k (coming s d) x (put_below x (four_on k) (eqb (s / 8) 1)) in
+      let m = (survivors (2 * (s % 8) + d) (omega arith)).1 in
+      let b = branch_label cost k costs priced (coming s d) in
+      let f = coming_from s d h l in
+      let g : bit_number (coming s d (four_on k)) ≡ s / 8 = ap bit_number (put_same x (four_on k) (eqb (s / 8) 1)) ∙ bit_number_eqb (s / 8) (omega arith) in
+      let v : state k (coming s d) + 16 * bit_number (coming s d (four_on k)) ≡ 2 * (s % 8) + d + 16 * (s / 8) = omega arith in
+      let e : get_or costs (label (state k (coming s d) + 16 * bit_number (coming s d (four_on k)))) 0 ≡ get_or costs (label (2 * (s % 8) + d + 16 * (s / 8))) 0 =
+      ap (λ u. get_or costs (label u) 0) v in
       omega arith
 
   -- the bit that drops out
-  drops : (s d : ℕ) → s < 16 → d < 2 → bit-number (coming s d k) ≡ d
+  drops : (s d : ℕ) → s < 16 → d < 2 → bit_number (coming s d k) ≡ d
   drops s d h l =
-      let f = coming-from s d h l in
-      let u = bit-number-le (coming s d k) in
+      let f = coming_from s d h l in
+      let u = bit_number_le (coming s d k) in
       halves _ _ _ _ (s % 8) d u l f
     where
       halves : (x0 x1 x2 x3 t d : ℕ) → x0 ≤ 1 → d < 2 → x0 + 2 * x1 + 4 * x2 + 8 * x3 ≡ 2 * t + d → x0 ≡ d
       halves x0 x1 x2 x3 t d u l e = omega arith
 
   -- the traced path is the one that is taken
-  traced-coming : (s d : ℕ) → decisions / 2 ^ s % 2 ≡ d → Agree (four-on (suc k)) (coming s d) (traced next (suc k) s)
+  traced_coming : (s d : ℕ) → decisions / 2 ^ s % 2 ≡ d → Agree (four_on (suc k)) (coming s d) (traced next (suc k) s)
   unfolding traced
-  traced-coming s d e i l =
-      let w : back s (getD next k 0) ≡ 2 * (s % 8) + d = ap (back s) written ∙ ap (λ x. 2 * (s % 8) + x) e in
-      let r = traced-same next work k (2 * (s % 8) + d) kept i in
-      sym (ap (λ x. cond (eqb i (four-on k)) (eqb (s / 8) 1) x) (ap (λ t. traced next k t i) w ∙ r))
+  traced_coming s d e i l =
+      let w : back s (get_or next k 0) ≡ 2 * (s % 8) + d = ap (back s) written ∙ ap (λ x. 2 * (s % 8) + x) e in
+      let r = traced_same next work k (2 * (s % 8) + d) kept i in
+      sym (ap (λ x. cond (eqb i (four_on k)) (eqb (s / 8) 1) x) (ap (λ t. traced next k t i) w ∙ r))
 
   meeting : (s : ℕ) → s < 16 → state (suc k) (coming s 0) ≡ state (suc k) (coming s 1)
-  meeting s h = coming-to s 0 h (omega arith) ∙ sym (coming-to s 1 h (omega arith))
+  meeting s h = coming_to s 0 h (omega arith) ∙ sym (coming_to s 1 h (omega arith))
 
   -- the path that is taken is the survivor, and its metric is its cost
-  survives : (s d : ℕ) → s < 16 → d < 2 → decisions / 2 ^ s % 2 ≡ d → Survivor cost (suc k) (coming s d) → getD new s 0 ≡ candidate metrics costs s d
-      → Survivor cost (suc k) (traced next (suc k) s) × (getD new s 0 ≡ path-cost cost (suc k) (traced next (suc k) s))
+  survives : (s d : ℕ) → s < 16 → d < 2 → decisions / 2 ^ s % 2 ≡ d → Survivor cost (suc k) (coming s d) → get_or new s 0 ≡ candidate metrics costs s d
+      → Survivor cost (suc k) (traced next (suc k) s) × (get_or new s 0 ≡ path_cost cost (suc k) (traced next (suc k) s))
   survives s d h l e best m = (
-    survivor-agree cost (suc k) (coming s d) (traced next (suc k) s) (traced-coming s d e) best,
-    m ∙ (sym (coming-cost s d h l) ∙ cost-agree cost (suc k) (coming s d) (traced next (suc k) s) (traced-coming s d e)),
+    survivor_agree cost (suc k) (coming s d) (traced next (suc k) s) (traced_coming s d e) best,
+    m ∙ (sym (coming_cost s d h l) ∙ cost_agree cost (suc k) (coming s d) (traced next (suc k) s) (traced_coming s d e)),
   )
 
   pub step : Survivors cost (suc k) next new
   step s h = go (ltb (candidate metrics costs s 1) (candidate metrics costs s 0)) refl
     where
       zeros : coming s 0 k ≡ false
-      zeros = bit-number-once (coming s 0 k) false (drops s 0 h (omega arith))
+      zeros = bit_number_once (coming s 0 k) false (drops s 0 h (omega arith))
 
       ones : coming s 1 k ≡ true
-      ones = bit-number-once (coming s 1 k) true (drops s 1 h (omega arith))
+      ones = bit_number_once (coming s 1 k) true (drops s 1 h (omega arith))
 
       go : (b : Bool) → ltb (candidate metrics costs s 1) (candidate metrics costs s 0) ≡ b
-          → Survivor cost (suc k) (traced next (suc k) s) × (getD new s 0 ≡ path-cost cost (suc k) (traced next (suc k) s))
+          → Survivor cost (suc k) (traced next (suc k) s) × (get_or new s 0 ≡ path_cost cost (suc k) (traced next (suc k) s))
       go true t =
-          let p = coming-cost s 0 h (omega arith) in
-          let q = coming-cost s 1 h (omega arith) in
+          let p = coming_cost s 0 h (omega arith) in
+          let q = coming_cost s 1 h (omega arith) in
           let l = ltb-true (candidate metrics costs s 1) (candidate metrics costs s 0) t in
-          survives s 1 h (omega arith) (chosen s h .1 ∙ ap bit-number t)
-          (second-survives cost k (coming s 0) (coming s 1) zeros ones (meeting s h) (coming-survivor s 0 h (omega arith)) (coming-survivor s 1 h (omega arith)) (omega arith))
-          (chosen s h .0 ∙ cond-true _ _ _ t)
+          survives s 1 h (omega arith) ((chosen s h).1 ∙ ap bit_number t)
+          (second_survives cost k (coming s 0) (coming s 1) zeros ones (meeting s h) (coming_survivor s 0 h (omega arith)) (coming_survivor s 1 h (omega arith)) (omega arith))
+          ((chosen s h).0 ∙ cond-true _ _ _ t)
       go false t =
-          let p = coming-cost s 0 h (omega arith) in
-          let q = coming-cost s 1 h (omega arith) in
+          let p = coming_cost s 0 h (omega arith) in
+          let q = coming_cost s 1 h (omega arith) in
           let l = ltb-false (candidate metrics costs s 1) (candidate metrics costs s 0) t in
-          survives s 0 h (omega arith) (chosen s h .1 ∙ ap bit-number t)
-          (first-survives cost k (coming s 0) (coming s 1) zeros ones (meeting s h) (coming-survivor s 0 h (omega arith)) (coming-survivor s 1 h (omega arith)) (omega arith))
-          (chosen s h .0 ∙ cond-false _ _ _ t)
+          survives s 0 h (omega arith) ((chosen s h).1 ∙ ap bit_number t)
+          (first_survives cost k (coming s 0) (coming s 1) zeros ones (meeting s h) (coming_survivor s 0 h (omega arith)) (coming_survivor s 1 h (omega arith)) (omega arith))
+          ((chosen s h).0 ∙ cond-false _ _ _ t)
 
 -- before the first step
-pub begins : (cost : ℕ → Bool → ℕ) (work metrics : List ℕ) → ((s : ℕ) → s < 16 → getD metrics s 0 ≡ begin-cost s) → Survivors cost 0 work metrics
-unfolding path-cost path-number
+pub begins : (cost : ℕ → Bool → ℕ) (work metrics : List ℕ) → ((s : ℕ) → s < 16 → get_or metrics s 0 ≡ begin_cost s) → Survivors cost 0 work metrics
+unfolding path_cost path_number
 begins cost work metrics h s l =
-    let e = traced-state work 0 s l in (
-      λ y p. let b : begin-cost (state 0 y) ≡ begin-cost (state 0 (traced work 0 s)) = ap begin-cost p in (omega arith, λ _. omega arith),
-      h s l ∙ (ap begin-cost (sym e) ∙ sym (add-zero _)),
+    let e = traced_state work 0 s l in (
+      λ y p. let b : begin_cost (state 0 y) ≡ begin_cost (state 0 (traced work 0 s)) = ap begin_cost p in (omega arith, λ _. omega arith),
+      h s l ∙ (ap begin_cost (sym e) ∙ sym (add-zero _)),
     )
 
 -- the metrics before the first step
-pub begin-metrics : (s : ℕ) → s < 16 → getD {A = ℕ} (0 ∷ replicate 15 (2 ^ 30)) s 0 ≡ begin-cost s
-begin-metrics zero h = refl
-begin-metrics (suc s) h = getD-replicate 15 s (2 ^ 30) 0 (omega arith) ∙ sym (ap (λ t. cond t 0 (2 ^ 30)) (eqb·suc-zero s))
+pub begin_metrics : (s : ℕ) → s < 16 → get_or {A = ℕ} (0 ∷ replicate 15 (2 ^ 30)) s 0 ≡ begin_cost s
+begin_metrics zero h = refl
+begin_metrics (suc s) h = get_or-replicate 15 s (2 ^ 30) 0 (omega arith) ∙ sym (ap (λ t. cond t 0 (2 ^ 30)) (eqb-suc-zero s))
 
 -- four steps back: the same path, below its last four bits
-pub four-traced : (work : List ℕ) (k s : ℕ) → Agree (four-on k) (traced work (four-on k) s) (traced work k (four-back work k s))
-four-traced work k s i l =
+pub four_traced : (work : List ℕ) (k s : ℕ) → Agree (four_on k) (traced work (four_on k) s) (traced work k (four_back work k s))
+four_traced work k s i l =
     let e3 : suc (suc (suc k)) ≡ k + 3 = omega arith in
     let e2 : suc (suc k) ≡ k + 2 = omega arith in
     let e1 : suc k ≡ k + 1 = omega arith in
-    let s3 : back s (getD work (suc (suc (suc k))) 0) ≡ back s (getD work (k + 3) 0) = ap (λ n. back s (getD work n 0)) e3 in
-    let b3 = back s (getD work (k + 3) 0) in
-    let s2 : back b3 (getD work (suc (suc k)) 0) ≡ back b3 (getD work (k + 2) 0) = ap (λ n. back b3 (getD work n 0)) e2 in
-    let b2 = back b3 (getD work (k + 2) 0) in
-    let s1 : back b2 (getD work (suc k) 0) ≡ back b2 (getD work (k + 1) 0) = ap (λ n. back b2 (getD work n 0)) e1 in
-    let b1 = back b2 (getD work (k + 1) 0) in
-    traced-back work (suc (suc (suc k))) s i (omega arith) ∙ (ap (λ n. traced work (suc (suc (suc k))) n i) s3
-    ∙ (traced-back work (suc (suc k)) b3 i (omega arith) ∙ (ap (λ n. traced work (suc (suc k)) n i) s2
-    ∙ (traced-back work (suc k) b2 i (omega arith) ∙ (ap (λ n. traced work (suc k) n i) s1
-    ∙ traced-back work k b1 i l)))))
+    let s3 : back s (get_or work (suc (suc (suc k))) 0) ≡ back s (get_or work (k + 3) 0) = ap (λ n. back s (get_or work n 0)) e3 in
+    let b3 = back s (get_or work (k + 3) 0) in
+    let s2 : back b3 (get_or work (suc (suc k)) 0) ≡ back b3 (get_or work (k + 2) 0) = ap (λ n. back b3 (get_or work n 0)) e2 in
+    let b2 = back b3 (get_or work (k + 2) 0) in
+    let s1 : back b2 (get_or work (suc k) 0) ≡ back b2 (get_or work (k + 1) 0) = ap (λ n. back b2 (get_or work n 0)) e1 in
+    let b1 = back b2 (get_or work (k + 1) 0) in
+    traced_back work (suc (suc (suc k))) s i (omega arith) ∙ (ap (λ n. traced work (suc (suc (suc k))) n i) s3
+    ∙ (traced_back work (suc (suc k)) b3 i (omega arith) ∙ (ap (λ n. traced work (suc (suc k)) n i) s2
+    ∙ (traced_back work (suc k) b2 i (omega arith) ∙ (ap (λ n. traced work (suc k) n i) s1
+    ∙ traced_back work k b1 i l)))))
 
 -- the way back over one octet: eight steps, whose two states are the octet
 module _ (work : List ℕ) (c : ℕ → Bool) (i o s high low : ℕ) (next : i ≡ suc o)
-    (agree : Agree (four-on (four-on (8 * i))) c (traced work (four-on (8 * i)) s))
-    (high-is : high ≡ four-back work (8 * o + 8) s) (low-is : low ≡ four-back work (8 * o + 4) high) where
-  upper : Agree (four-on (four-on (four-on (8 * o)))) c (traced work (four-on (four-on (8 * o))) high)
+    (agree : Agree (four_on (four_on (8 * i))) c (traced work (four_on (8 * i)) s))
+    (high_is : high ≡ four_back work (8 * o + 8) s) (low-is : low ≡ four_back work (8 * o + 4) high) where
+  upper : Agree (four_on (four_on (four_on (8 * o)))) c (traced work (four_on (four_on (8 * o))) high)
   upper j l =
-      let e : four-on (8 * i) ≡ four-on (four-on (four-on (8 * o))) = omega arith in
-      let k : 8 * o + 8 ≡ four-on (four-on (8 * o)) = omega arith in
+      let e : four_on (8 * i) ≡ four_on (four_on (four_on (8 * o))) = omega arith in
+      let k : 8 * o + 8 ≡ four_on (four_on (8 * o)) = omega arith in
       agree j (omega arith) ∙ (ap (λ n. traced work n s j) e
-      ∙ (four-traced work (four-on (four-on (8 * o))) s j l ∙ ap (λ t. traced work (four-on (four-on (8 * o))) t j) (sym (high-is ∙ ap (λ n. four-back work n s) k))))
+      ∙ (four_traced work (four_on (four_on (8 * o))) s j l ∙ ap (λ t. traced work (four_on (four_on (8 * o))) t j) (sym (high_is ∙ ap (λ n. four_back work n s) k))))
 
-  pub octet-agree : Agree (four-on (four-on (8 * o))) c (traced work (four-on (8 * o)) low)
-  octet-agree j l =
-      let k : 8 * o + 4 ≡ four-on (8 * o) = omega arith in
-      upper j (omega arith) ∙ (four-traced work (four-on (8 * o)) high j l ∙ ap (λ t. traced work (four-on (8 * o)) t j) (sym (low-is ∙ ap (λ n. four-back work n high) k)))
+  pub octet_agree : Agree (four_on (four_on (8 * o))) c (traced work (four_on (8 * o)) low)
+  octet_agree j l =
+      let k : 8 * o + 4 ≡ four_on (8 * o) = omega arith in
+      upper j (omega arith) ∙ (four_traced work (four_on (8 * o)) high j l ∙ ap (λ t. traced work (four_on (8 * o)) t j) (sym (low-is ∙ ap (λ n. four_back work n high) k)))
 
-  high-below : high < 16
-  high-below = subst (λ n. n < 16) (sym high-is) (back-below _ (getD work (8 * o + 8) 0))
+  high_below : high < 16
+  high_below = subst (λ n. n < 16) (sym high_is) (back_below _ (get_or work (8 * o + 8) 0))
 
-  pub low-below : low < 16
-  low-below = subst (λ n. n < 16) (sym low-is) (back-below _ (getD work (8 * o + 4) 0))
+  pub low_below : low < 16
+  low_below = subst (λ n. n < 16) (sym low-is) (back_below _ (get_or work (8 * o + 4) 0))
 
-  pub octet-back : low + 16 * high ≡ path-octet o c
-  octet-back =
-      let a = state-agree (four-on (four-on (8 * o))) c (traced work (four-on (four-on (8 * o))) high) upper in
-      let b = state-agree (four-on (8 * o)) c (traced work (four-on (8 * o)) low) octet-agree in
-      let p = traced-state work (four-on (four-on (8 * o))) high high-below in
-      let q = traced-state work (four-on (8 * o)) low low-below in
+  pub octet_back : low + 16 * high ≡ path_octet o c
+  octet_back =
+      let a = state_agree (four_on (four_on (8 * o))) c (traced work (four_on (four_on (8 * o))) high) upper in
+      let b = state_agree (four_on (8 * o)) c (traced work (four_on (8 * o)) low) octet_agree in
+      let p = traced_state work (four_on (four_on (8 * o))) high high_below in
+      let q = traced_state work (four_on (8 * o)) low low_below in
       omega arith

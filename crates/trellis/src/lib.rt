@@ -1,17 +1,11 @@
 // The way through the trellis to the nearest text (Viterbi's), over any source of soft bits.
-ghost use mathlib.Core.Path.{_≡_};
-ghost use mathlib.Core.Bool.{Bool, true, false, cond};
-ghost use mathlib.Core.List.{List, [], _∷_};
-ghost use Prim.Native.Nat.{ℕ, _+_, _*_, _/_, _%_, _^_, _<_, _≤_};
-ghost use lib.Dec.{ltb};
-ghost use lib.ListN.{length, getD, take};
-ghost use Rattle·std.specs.Results.{isOk};
-ghost use Rattle·std.specs.Vec.{made};
-ghost use Rattle·refusal.specs.Answer.{after};
-ghost use Rattle·code.specs.Nearest.{nearest};
-ghost use Rattle·code.specs.Separation.{coding-cost};
-ghost use Rattle·trellis·specs.Search.{NearestFound, UsesFirst, least-cost, nearest-answer, steps-of};
-ghost use Rattle·trellis·specs.Trellis.{Bounded, Chosen, Survivor, back, four-back, label, label-cost, path-cost, path-octet, traced};
+ghost use Rattle.std.specs.Prelude.{◌≡◌, ℕ, ◌+◌, ◌*◌, ◌/◌, ◌%◌, ◌^◌, ◌<◌, ◌≤◌, Bool, true, false, ltb, List, [], ◌∷◌, length, take, is_ok, IfOk, if◌then◌else◌, nat_lt, slice_index};
+ghost use Rattle.refusal.specs.Answer.{after};
+ghost use Rattle.code.specs.Nearest.{nearest};
+ghost use Rattle.code.specs.Separation.{coding_cost};
+ghost use Rattle.trellis.specs.Search.{NearestFound, UsesFirst, least_cost, nearest_answer, steps_of};
+ghost use Rattle.trellis.specs.Trellis.{Bounded, Chosen, Survivor, back, four_back, label, label_cost, path_cost, path_octet, traced};
+
 use code::check_length;
 use refusal::Refusal;
 
@@ -22,8 +16,8 @@ pub trait SoftBits {
 
     // The cost of deciding coded bit i 0, and of deciding it 1.
     fn costs(&self, i: usize) -> (u16, u16)
-        ensures zero { λ r. ⌜ r .0 ≡ cost (now (self .entry)) i false ⌝ }
-        ensures one { λ r. ⌜ r .1 ≡ cost (now (self .entry)) i true ⌝ };
+        ensures zero { result.0 ≡ cost self.now i false }
+        ensures one { result.1 ≡ cost self.now i true };
 }
 
 // The state in which every text begins and, after its four zero bits, ends.
@@ -38,7 +32,7 @@ const BRANCH: [u8; 8] = [0, 14, 11, 5, 12, 2, 7, 9];
 
 // The costs of the four combinations of two coded bits, the first counting 1.
 fn pair_costs(a0: u16, a1: u16, b0: u16, b1: u16) -> [u32; 4]
-    ensures { λ r. ⌜ r ≡ (a0 + b0) ∷ (a1 + b0) ∷ (a0 + b1) ∷ (a1 + b1) ∷ [] ⌝ }
+    ensures { result ≡ (a0 + b0) ∷ (a1 + b0) ∷ (a0 + b1) ∷ (a1 + b1) ∷ [] }
 {
     let a0 = u32::from(a0);
     let a1 = u32::from(a1);
@@ -49,9 +43,9 @@ fn pair_costs(a0: u16, a1: u16, b0: u16, b1: u16) -> [u32; 4]
 
 // The costs of the sixteen combinations of the coded bits of a step, the first counting 1.
 fn label_costs<S: SoftBits>(source: &S, step: usize) -> [u32; 16]
-    requires { ⌜ step < 2 ^ 60 ⌝ }
-    ensures priced { λ r. ⌜ ((q : ℕ) → q < 16 → getD r q 0 ≡ label-cost (cost (now (source .entry))) step q) ⌝ }
-    ensures bounded { λ _. ⌜ (Bounded (cost (now (source .entry))) step 65535 → Bounded (cost (now (source .entry))) (step + 1) 65535) ⌝ }
+    requires { step < 2 ^ 60 }
+    ensures priced { (q : ℕ) → q < 16 → slice_index result q ≡ label_cost (cost source.now) step q }
+    ensures bounded { Bounded (cost source.now) step 65535 → Bounded (cost source.now) (step + 1) 65535 }
 {
     let (a0, a1) = source.costs(4 * step);
     let (b0, b1) = source.costs(4 * step + 1);
@@ -81,8 +75,8 @@ fn label_costs<S: SoftBits>(source: &S, step: usize) -> [u32; 16]
 
 // The cheaper of two ways into a state, and whether it is the second; a tie goes to the first.
 fn cheaper(first: u32, second: u32) -> (u32, bool)
-    ensures metric { λ r. ⌜ r .0 ≡ cond (ltb second first) second first ⌝ }
-    ensures second { λ r. ⌜ r .1 ≡ ltb second first ⌝ }
+    ensures metric { result.0 ≡ (if ltb second first then second else first) }
+    ensures second { result.1 ≡ nat_lt second first }
 {
     if second < first {
         (second, true)
@@ -93,9 +87,9 @@ fn cheaper(first: u32, second: u32) -> (u32, bool)
 
 // The label of the branch from state 2j with a new 0.
 fn branch_label(j: usize) -> usize
-    requires { ⌜ j < 8 ⌝ }
-    ensures value { λ r. ⌜ r ≡ label (2 * j) ⌝ }
-    ensures small { λ r. ⌜ r < 16 ⌝ }
+    requires { j < 8 }
+    ensures value { result ≡ label (2 * j) }
+    ensures small { result < 16 }
 {
     BRANCH[j] as usize
 }
@@ -109,8 +103,8 @@ struct Step {
 
 // One step: each state takes the cheaper of its two branches.
 fn advance(metrics: &[u32; 16], costs: &[u32; 16]) -> Step
-    requires { ⌜ ((s : ℕ) → s < 16 → getD (now metrics) s 0 < 2 ^ 31) ⌝ ∗ ⌜ ((q : ℕ) → q < 16 → getD (now costs) q 0 < 2 ^ 20) ⌝ }
-    ensures { λ r. ⌜ ((s : ℕ) → s < 16 → Chosen (now (metrics .entry)) (now (costs .entry)) (r .metrics) (r .decisions) s) ⌝ }
+    requires { (((s : ℕ) → s < 16 → slice_index metrics.now s < 2 ^ 31)) × (((q : ℕ) → q < 16 → slice_index costs.now q < 2 ^ 20)) }
+    ensures { (s : ℕ) → s < 16 → Chosen metrics.now costs.now result.metrics result.decisions s }
 {
     let mut next = [0; 16];
     let mut low = 0u16;
@@ -136,7 +130,7 @@ fn advance(metrics: &[u32; 16], costs: &[u32; 16]) -> Step
 
 // The metric of the zero state.
 fn into_zero_state(metrics: &[u32; 16]) -> u32
-    ensures { λ r. ⌜ r ≡ getD (now (metrics .entry)) 0 0 ⌝ }
+    ensures { result ≡ slice_index metrics.now 0 }
 {
     metrics[ZERO_STATE]
 }
@@ -144,10 +138,10 @@ fn into_zero_state(metrics: &[u32; 16]) -> u32
 // The forward pass: writes the decisions of each step into `work`, and returns the cost of the survivor into the zero
 // state.
 fn forward<S: SoftBits>(source: &S, work: &mut [u16]) -> u32
-    requires { ⌜ length (now work) ≤ 1924 ⌝ }
-    ensures survivor { λ _. ⌜ Survivor (cost (now (source .entry))) (length (now (work .entry))) (traced (now (work .exit)) (length (now (work .entry))) 0) ⌝ }
-    ensures metric { λ r. ⌜ r ≡ path-cost (cost (now (source .entry))) (length (now (work .entry))) (traced (now (work .exit)) (length (now (work .entry))) 0) ⌝ }
-    ensures bounded { λ _. ⌜ Bounded (cost (now (source .entry))) (length (now (work .entry))) 65535 ⌝ }
+    requires { length work.old ≤ 1924 }
+    ensures survivor { Survivor (cost source.now) (length work.old) (traced work.new (length work.old) 0) }
+    ensures metric { result ≡ path_cost (cost source.now) (length work.old) (traced work.new (length work.old) 0) }
+    ensures bounded { Bounded (cost source.now) (length work.old) 65535 }
 {
     let mut metrics = [UNREACHED; 16];
     metrics[0] = 0;
@@ -162,16 +156,16 @@ fn forward<S: SoftBits>(source: &S, work: &mut [u16]) -> u32
 
 // The state before `state`, by the decision bit that it has among those of its step.
 fn step_back(state: usize, decisions: u16) -> usize
-    requires { ⌜ state < 16 ⌝ }
-    ensures { λ r. ⌜ r ≡ back state decisions ⌝ }
+    requires { state < 16 }
+    ensures { result ≡ back state decisions }
 {
     2 * (state % 8) + ((decisions >> state) % 2) as usize
 }
 
 // The state before the four steps from `step` on.
 fn steps_back(work: &[u16], step: usize, state: usize) -> usize
-    requires { ⌜ step + 4 ≤ length (now work) ⌝ ∗ ⌜ state < 16 ⌝ }
-    ensures { λ r. ⌜ r ≡ four-back (now (work .entry)) step state ⌝ }
+    requires { (step + 4 ≤ length work.now) × (state < 16) }
+    ensures { result ≡ four_back work.now step state }
 {
     let state = step_back(state, work[step + 3]);
     let state = step_back(state, work[step + 2]);
@@ -181,16 +175,16 @@ fn steps_back(work: &[u16], step: usize, state: usize) -> usize
 
 // The octet whose lower and upper four bits are two states.
 fn octet_of(low: usize, high: usize) -> u8
-    requires { ⌜ low < 16 ⌝ ∗ ⌜ high < 16 ⌝ }
-    ensures { λ r. ⌜ r ≡ low + 16 * high ⌝ }
+    requires { (low < 16) × (high < 16) }
+    ensures { result ≡ low + 16 * high }
 {
     (low + 16 * high) as u8
 }
 
 // The way back from the zero state. A state holds four bits of the text, so two states make an octet.
 fn trace_back(work: &[u16], text: &mut [u8])
-    requires { ⌜ length (now work) ≡ 8 * length (now text) + 4 ⌝ }
-    ensures { λ _. ⌜ ((i : ℕ) → i < length (now (text .entry)) → getD (now (text .exit)) i 0 ≡ path-octet i (traced (now (work .entry)) (length (now (work .entry))) 0)) ⌝ }
+    requires { length work.now ≡ 8 * length text.old + 4 }
+    ensures { (i : ℕ) → i < length text.old → slice_index text.new i ≡ path_octet i (traced work.now (length work.now) 0) }
 {
     let mut state = ZERO_STATE;
     for i in (0..text.len()).rev() {
@@ -203,9 +197,9 @@ fn trace_back(work: &[u16], text: &mut [u8])
 
 // Both passes, for as many octets as `text` has places.
 fn both_passes<S: SoftBits>(source: &S, text: &mut [u8], work: &mut [u16]) -> u32
-    requires { ⌜ length (now text) ≤ 240 ⌝ ∗ ⌜ length (now work) ≡ 8 * length (now text) + 4 ⌝ }
-    ensures nearest { λ _. ⌜ now (text .exit) ≡ nearest (coding-cost (cost (now (source .entry)))) (length (now (text .entry))) ⌝ }
-    ensures value { λ r. ⌜ r ≡ coding-cost (cost (now (source .entry))) (now (text .exit)) ⌝ }
+    requires { (length text.old ≤ 240) × (length work.old ≡ 8 * length text.old + 4) }
+    ensures nearest { text.new ≡ nearest (coding_cost (cost source.now)) (length text.old) }
+    ensures value { result ≡ coding_cost (cost source.now) text.new }
 {
     let metric = forward(source, work);
     trace_back(work, text);
@@ -214,8 +208,8 @@ fn both_passes<S: SoftBits>(source: &S, text: &mut [u8], work: &mut [u16]) -> u3
 
 // The number of steps of a text of m octets.
 fn steps_for(m: usize) -> usize
-    requires { ⌜ m ≤ 240 ⌝ }
-    ensures { λ r. ⌜ r ≡ steps-of m ⌝ }
+    requires { m ≤ 240 }
+    ensures { result ≡ steps_of m }
 {
     8 * m + 4
 }
@@ -229,10 +223,10 @@ pub fn nearest_text<S: SoftBits>(
     text: &mut [u8],
     work: &mut [u16],
 ) -> Result<u32, Refusal>
-    ensures answer { λ r. ⌜ r ≡ nearest-answer m (length (now (text .entry))) (length (now (work .entry))) (least-cost (cost (now (source .entry))) m) ⌝ }
-    ensures memory { λ r. ⌜ now (text .exit) ≡ after r (nearest (coding-cost (cost (now (source .entry)))) m) (now (text .entry)) ⌝ }
-    ensures working { λ r. ⌜ UsesFirst (steps-of m) (isOk r) (now (work .entry)) (now (work .exit)) ⌝ }
-    ensures nearest { λ r. ⌜ made r (NearestFound (cost (now (source .entry))) m (take m (now (text .exit)))) ⌝ }
+    ensures answer { result ≡ nearest_answer m (length text.old) (length work.old) (least_cost (cost source.now) m) }
+    ensures memory { text.new ≡ after result (nearest (coding_cost (cost source.now)) m) text.old }
+    ensures working { UsesFirst (steps_of m) (is_ok result) work.old work.new }
+    ensures nearest { IfOk result (NearestFound (cost source.now) m (take m text.new)) }
 {
     check_length(m)?;
     let steps = steps_for(m);

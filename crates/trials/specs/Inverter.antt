@@ -1,21 +1,18 @@
 -- A small stage for trials: one fixed bit in front, and all elements inverted behind it.
-use mathlib.Core.Bool.{Bool, cond}
-use mathlib.Core.List.{List, [], _∷_}
-use Prim.Native.Nat.{ℕ, _+_, _-_}
-use lib.Dec.{leb, eqb}
-use Rattle·stage.specs.declared.Content.{Content}
-use Rattle·stage.specs.declared.Content.the-variants.{Inverted, Fixed}
-use Rattle·stage.specs.declared.Marker.{Marker}
-use Rattle·stage.specs.Meaning.{Meaning}
+use Rattle.std.specs.Prelude.{ℕ, ◌+◌, ◌-◌, Bool, cond, List, [], ◌∷◌, ◌==◌, nat_le}
+use Rattle.stage.specs.declared.Content.{Content}
+use Rattle.stage.specs.declared.Content.TheVariants.{Inverted, Fixed}
+use Rattle.stage.specs.declared.Marker.{Marker}
+use Rattle.stage.specs.Meaning.{Meaning}
 
 -- the bit in front, and then the elements in order
-abbrev pub inverter-at : Bool → ℕ → Content
-inverter-at front p = cond (eqb p 0) (Fixed front) (Inverted (p - 1))
+abbrev pub inverter_at : Bool → ℕ → Content
+inverter_at front p = cond (p == 0) (Fixed front) (Inverted (p - 1))
 
 -- it takes up to 100 elements, and one more leaves it
 abbrev pub inverter : Bool → Meaning
-inverter front = record { takes = λ n. leb n 100; size = λ n. n + 1; at = λ n p. inverter-at front p }
+inverter front = record { takes = λ n. nat_le n 100; size = λ n. n + 1; at = λ n p. inverter_at front p }
 
 -- the bit in front is its marker
-abbrev pub inverter-markers : Bool → ℕ → List Marker
-inverter-markers front n = record { place = 0; bit = front } ∷ []
+abbrev pub inverter_markers : Bool → ℕ → List Marker
+inverter_markers front n = record { place = 0; bit = front } ∷ []

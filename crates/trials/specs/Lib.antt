@@ -1,1 +1,2 @@
 pub mod Inverter
+pub mod InverterLaws

@@ -1,10 +1,12 @@
 // A small stage for trials: it puts one fixed bit in front, which is its marker, and inverts all elements behind it.
-ghost use Rattle·trials·specs.Inverter.{inverter, inverter-markers};
+ghost use Rattle.trials.specs.Inverter.{inverter, inverter_markers};
+ghost use Rattle.std.specs.Prelude.{◌+◌};
+ghost use Rattle.stage.proofs.Placed.{placed_homes};
+ghost use Rattle.trials.specs.InverterLaws.{placed};
+ghost use Rattle.std.proofs.Common.{rules};
+
 use refusal::Refusal;
-use stage::Content;
-use stage::MarkedStage;
-use stage::Marker;
-use stage::Stage;
+use stage::{Content, MarkedStage, Marker, Stage};
 
 // The most elements that it takes.
 const MOST_ELEMENTS: usize = 100;
@@ -14,14 +16,18 @@ pub struct Inverter {
     pub front: bool,
 }
 
-pub impl Stage for Inverter as InverterStage {
-    ghost takes = { λ s. inverter (s .front) .takes };
+impl Stage for Inverter {
+    ghost takes = { λ s. (inverter s.front).takes };
 
-    ghost size = { λ s. inverter (s .front) .size };
+    ghost size = { λ s. (inverter s.front).size };
 
-    ghost at = { λ s. inverter (s .front) .at };
+    ghost at = { λ s. (inverter s.front).at };
 
-    ghost meaning = { λ s. inverter (s .front) };
+    ghost meaning = { λ s. inverter s.front };
+
+    ghost whole = { Prim.search rules };
+
+    ghost homes = { λ s. placed_homes (inverter s.front) (λ i. i + 1) (placed s.front) };
 
     fn length(&self, n: usize) -> Result<usize, Refusal> {
         if n > MOST_ELEMENTS {
@@ -49,8 +55,8 @@ pub impl Stage for Inverter as InverterStage {
     }
 }
 
-pub impl MarkedStage for Inverter as InverterMarkedStage {
-    ghost markers = { λ s. inverter-markers (s .front) };
+impl MarkedStage for Inverter {
+    ghost markers = { λ s. inverter_markers s.front };
 
     fn marker_count(&self, n: usize) -> Result<usize, Refusal> {
         self.length(n)?;

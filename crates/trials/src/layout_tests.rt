@@ -1,24 +1,13 @@
 use layout::*;
-use pile::PileMarkedStage;
-use pile::PileStage;
 use refusal::Refusal;
-use refusal::RefusalDebug;
-use refusal::RefusalPartialEq;
-use stage::Content;
-use stage::ContentDebug;
-use stage::ContentPartialEq;
-use stage::MarkedStage;
-use stage::Marker;
-use stage::MarkerDebug;
-use stage::MarkerPartialEq;
-use stage::Stage;
-use std::test::*;
+use stage::{Content, MarkedStage, Marker, Stage};
+use std::test::Fail;
 
 // The exchange's usual preamble.
 const USUAL: [u8; 7] = [0x56, 0x6E, 0xD2, 0x71, 0x56, 0x6E, 0xD2];
 
 #[test]
-fn lengths() -> Result<(), Fail> {
+fn lengths(rt: HostRuntime) -> Result<(), Fail> {
     for (n, length) in [
         (0, 0),
         (8, 9),
@@ -28,36 +17,37 @@ fn lengths() -> Result<(), Fail> {
         (336, 402),
         (10_000, 12_008),
     ] {
-        check_eq(Inserter.length(n)?, length)?;
+        assert_eq!(rt; Inserter.length(n)?, length);
     }
     for (n, length) in [(0, 112), (10_000, 10_112)] {
-        check_eq(Interleaver { preamble: USUAL }.length(n)?, length)?;
+        assert_eq!(rt; Interleaver { preamble: USUAL }.length(n)?, length);
     }
     let pile = standard_pile(USUAL);
     for (n, length) in [(48, 180), (336, 522), (7_696, 9_354)] {
-        check_eq(pile.length(n)?, length)?;
+        assert_eq!(rt; pile.length(n)?, length);
     }
-    check_eq(Lead.length(10_000)?, 10_008)?;
-    check_eq(pile.length(10_000), Err(Refusal::CountNotTaken))
+    assert_eq!(rt; Lead.length(10_000)?, 10_008);
+    assert_eq!(rt; pile.length(10_000), Err(Refusal::CountNotTaken));
+    Ok(())
 }
 
 #[test]
-fn refusals() -> Result<(), Fail> {
-    check_eq(Inserter.length(10_001), Err(Refusal::CountNotTaken))?;
-    check_eq(Lead.home(10_001, 0), Err(Refusal::CountNotTaken))?;
-    check_eq(
+fn refusals(rt: HostRuntime) {
+    assert_eq!(rt; Inserter.length(10_001), Err(Refusal::CountNotTaken));
+    assert_eq!(rt; Lead.home(10_001, 0), Err(Refusal::CountNotTaken));
+    assert_eq!(rt;
         Interleaver { preamble: USUAL }.content(0, 112),
-        Err(Refusal::NoSuchPlace),
-    )?;
-    check_eq(Inserter.content(0, 0), Err(Refusal::NoSuchPlace))?;
-    check_eq(Inserter.home(48, 48), Err(Refusal::NoSuchPlace))
+        Err(Refusal::NoSuchPlace)
+    );
+    assert_eq!(rt; Inserter.content(0, 0), Err(Refusal::NoSuchPlace));
+    assert_eq!(rt; Inserter.home(48, 48), Err(Refusal::NoSuchPlace));
 }
 
 #[test]
-fn homes() -> Result<(), Fail> {
+fn homes(rt: HostRuntime) -> Result<(), Fail> {
     let interleaver = Interleaver { preamble: USUAL };
     for (element, place) in [(7, 119), (22, 118), (112, 112)] {
-        check_eq(interleaver.home(120, element)?, place)?;
+        assert_eq!(rt; interleaver.home(120, element)?, place);
     }
     for (element, place) in [
         (6, 6),
@@ -69,13 +59,13 @@ fn homes() -> Result<(), Fail> {
         (320, 384),
         (9_999, 12_007),
     ] {
-        check_eq(Inserter.home(10_000, element)?, place)?;
+        assert_eq!(rt; Inserter.home(10_000, element)?, place);
     }
     Ok(())
 }
 
 #[test]
-fn contents() -> Result<(), Fail> {
+fn contents(rt: HostRuntime) -> Result<(), Fail> {
     let interleaver = Interleaver { preamble: USUAL };
     for (place, content) in [
         (0, Content::Inverted(0)),
@@ -86,7 +76,7 @@ fn contents() -> Result<(), Fail> {
         (17, Content::Carried(1)),
         (119, Content::Inverted(7)),
     ] {
-        check_eq(interleaver.content(48, place)?, content)?;
+        assert_eq!(rt; interleaver.content(48, place)?, content);
     }
     for (place, content) in [
         (7, Content::Mute),
@@ -96,7 +86,7 @@ fn contents() -> Result<(), Fail> {
         (383, Content::Fixed(true)),
         (391, Content::Mute),
     ] {
-        check_eq(Inserter.content(336, place)?, content)?;
+        assert_eq!(rt; Inserter.content(336, place)?, content);
     }
     Ok(())
 }
@@ -105,10 +95,10 @@ fn contents() -> Result<(), Fail> {
 // resynchronisation sequence, which stands from place 352 of the inserter's stream on and is inverted in the scrambled
 // columns.
 #[test]
-fn markers() -> Result<(), Fail> {
+fn markers(rt: HostRuntime) -> Result<(), Fail> {
     let pile = standard_pile(USUAL);
     for (n, count) in [(0, 64), (320, 64), (321, 96), (7_696, 832)] {
-        check_eq(pile.marker_count(n)?, count)?;
+        assert_eq!(rt; pile.marker_count(n)?, count);
     }
     for (index, place, bit) in [
         (0, 0, false),
@@ -121,8 +111,9 @@ fn markers() -> Result<(), Fail> {
         (65, 377, true),
         (95, 503, false),
     ] {
-        check_eq(pile.marker(336, index)?, Marker { place, bit })?;
+        assert_eq!(rt; pile.marker(336, index)?, Marker { place, bit });
     }
-    check_eq(pile.marker(336, 96), Err(Refusal::NoSuchPlace))?;
-    check_eq(pile.marker(10_000, 0), Err(Refusal::CountNotTaken))
+    assert_eq!(rt; pile.marker(336, 96), Err(Refusal::NoSuchPlace));
+    assert_eq!(rt; pile.marker(10_000, 0), Err(Refusal::CountNotTaken));
+    Ok(())
 }

@@ -1,9 +1,6 @@
 // A source of soft bits for the benchmark and the trials: levels, one octet for each coded bit.
-ghost use mathlib.Core.Path.{_≡_};
-ghost use mathlib.Core.Bool.{cond};
-ghost use Prim.Native.Nat.{_-_};
-ghost use denote.Ref.{now};
-ghost use lib.ListN.{getD};
+ghost use Rattle.std.specs.Prelude.{◌≡◌, ◌-◌, if◌then◌else◌, slice_index_or};
+
 use trellis::SoftBits;
 
 // 0 is a 0 at full strength, 254 a 1 at full strength, and 127 says nothing.
@@ -17,14 +14,14 @@ pub struct Levels<'a> {
 
 // The level of coded bit i, where one was heard.
 fn level_at(levels: &[u8], i: usize) -> u8
-    ensures { λ r. ⌜ r ≡ getD (now (levels .entry)) i 127 ⌝ }
+    ensures { result ≡ slice_index_or levels.now i 127 }
 {
     if i < levels.len() { levels[i] } else { LOST }
 }
 
 // A coded bit costs how far its level is from the bit's full strength.
-pub impl SoftBits for Levels<'_> as LevelsSoftBits {
-    ghost cost = { λ s i b. cond b (254 - getD (now (s .levels)) i 127) (getD (now (s .levels)) i 127) };
+impl SoftBits for Levels<'_> {
+    ghost cost = { λ s i b. (if b then 254 - slice_index_or s.levels.now i 127 else slice_index_or s.levels.now i 127) };
 
     fn costs(&self, i: usize) -> (u16, u16) {
         let level = u16::from(level_at(self.levels, i));
@@ -34,7 +31,7 @@ pub impl SoftBits for Levels<'_> as LevelsSoftBits {
 
 // The level at which a bit is heard at full strength.
 pub fn full(bit: bool) -> u8
-    ensures { λ r. ⌜ r ≡ cond bit 254 0 ⌝ }
+    ensures { result ≡ (if bit then 254 else 0) }
 {
     if bit { 254 } else { 0 }
 }

@@ -16,7 +16,4 @@ mod stage_tests;
 #[cfg(test)]
 mod trellis_tests;
 
-pub use levels::LOST;
-pub use levels::Levels;
-pub use levels::LevelsSoftBits;
-pub use levels::full;
+pub use levels::{LOST, Levels, full};

@@ -1,9 +1,7 @@
 // The whole way out of a text. What is expected was worked out by a model apart from this code.
 use exchange::*;
 use refusal::Refusal;
-use refusal::RefusalDebug;
-use refusal::RefusalPartialEq;
-use std::test::*;
+use std::test::Fail;
 
 // The values file of the text 05 FF.
 const VALUES: &[u8; 563] =
@@ -13,12 +11,12 @@ const VALUES: &[u8; 563] =
 const SOUND: (usize, usize, usize) = (9004, 842946, 105432312);
 
 #[test]
-fn two_octets(rt: LibcRuntime) -> Result<(), Fail> {
+fn two_octets(rt: HostRuntime) -> Result<(), Fail> {
     let heap = rt.alloc();
     let Ok(file) = values(heap, &[0x05, 0xFF]) else {
         return Err(Fail::new("no values file"));
     };
-    check_eq(file.as_slice(), VALUES.as_slice())?;
+    assert_eq!(rt; file.as_slice(), VALUES.as_slice());
     let Ok(file) = sound(heap, &[0x05, 0xFF]) else {
         return Err(Fail::new("no sound file"));
     };
@@ -28,35 +26,38 @@ fn two_octets(rt: LibcRuntime) -> Result<(), Fail> {
         sum = sum.wrapping_add(*octet as usize);
         placed = placed.wrapping_add((i % 251).wrapping_mul(*octet as usize));
     }
-    check_eq((file.len(), sum, placed), SOUND)
+    assert_eq!(rt; (file.len(), sum, placed), SOUND);
+    Ok(())
 }
 
 #[test]
-fn limits(rt: LibcRuntime) -> Result<(), Fail> {
+fn limits(rt: HostRuntime) -> Result<(), Fail> {
     let heap = rt.alloc();
     let longest = vec![in heap; 0x5Au8; 240]?;
     let longer = vec![in heap; 0x5Au8; 241]?;
     let Ok(elements) = burst(heap, &longest) else {
         return Err(Fail::new("240 octets have no burst"));
     };
-    check_eq(elements.len(), 9_354)?;
+    assert_eq!(rt; elements.len(), 9_354);
     let empty = Some(Failure::Refused(Refusal::EmptyText));
     let long = Some(Failure::Refused(Refusal::TextTooLong));
-    check_eq(coded(heap, &[]).err(), empty)?;
-    check_eq(burst(heap, &[]).err(), empty)?;
-    check_eq(values(heap, &longer).err(), long)?;
-    check_eq(sound(heap, &longer).err(), long)?;
-    check_eq(read_limit(), 241)
+    assert_eq!(rt; coded(heap, &[]).err(), empty);
+    assert_eq!(rt; burst(heap, &[]).err(), empty);
+    assert_eq!(rt; values(heap, &longer).err(), long);
+    assert_eq!(rt; sound(heap, &longer).err(), long);
+    assert_eq!(rt; read_limit(), 241);
+    Ok(())
 }
 
 #[test]
-fn printed(rt: LibcRuntime) -> Result<(), Fail> {
+fn printed(rt: HostRuntime) -> Result<(), Fail> {
     let heap = rt.alloc();
     let long = Failure::Refused(Refusal::TextTooLong);
     let short = Failure::OutOfMemory;
-    check_eq(
-        format!(heap, "{long}")?.as_str(),
-        "refused 2: the text has more than 240 octets",
-    )?;
-    check_eq(format!(heap, "{short}")?.as_str(), "out of memory")
+    assert_eq!(rt;
+        format!(in heap; "{long}")?.as_str(),
+        "refused 2: the text has more than 240 octets"
+    );
+    assert_eq!(rt; format!(in heap; "{short}")?.as_str(), "out of memory");
+    Ok(())
 }

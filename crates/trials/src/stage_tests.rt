@@ -1,26 +1,9 @@
 use crate::inverter::Inverter;
-use crate::inverter::InverterMarkedStage;
-use crate::inverter::InverterStage;
 use pile::Pile;
-use pile::PileMarkedStage;
-use pile::PileStage;
 use refusal::Refusal;
-use refusal::RefusalDebug;
-use refusal::RefusalPartialEq;
-use stage::Content;
-use stage::ContentDebug;
-use stage::ContentPartialEq;
-use stage::Either;
-use stage::EitherStage;
-use stage::MarkedStage;
-use stage::Marker;
-use stage::MarkerDebug;
-use stage::MarkerPartialEq;
-use stage::Stage;
-use stage::Wire;
-use stage::WireMarkedStage;
-use stage::WireStage;
-use std::test::*;
+use stage::{Content, Either, MarkedStage, Marker, Stage, Wire};
+use std::process::Abort;
+use std::test::Fail;
 use transmitter::write;
 
 // The stages of a pile of three, the lowest first: the bits that they put in front are 1, 1 and 0.
@@ -42,117 +25,117 @@ fn worked(place: usize) -> Content {
 }
 
 // A pile of the three, however it is joined, answers as worked out by hand.
-fn agrees<S: MarkedStage>(pile: &S) -> Result<(), Fail> {
+fn agrees<S: MarkedStage>(rt: &impl Abort, pile: &S) {
     for (n, length) in [
         (0, Ok(3)),
         (5, Ok(8)),
         (98, Ok(101)),
         (99, Err(Refusal::CountNotTaken)),
     ] {
-        check_eq(pile.length(n), length)?;
+        assert_eq!(rt; pile.length(n), length);
     }
     for place in 0..8 {
-        check_eq(pile.content(5, place), Ok(worked(place)))?;
+        assert_eq!(rt; pile.content(5, place), Ok(worked(place)));
     }
     for element in 0..5 {
-        check_eq(pile.home(5, element), Ok(element + 3))?;
+        assert_eq!(rt; pile.home(5, element), Ok(element + 3));
     }
-    check_eq(pile.content(5, 8), Err(Refusal::NoSuchPlace))?;
-    check_eq(pile.content(99, 200), Err(Refusal::CountNotTaken))?;
-    check_eq(pile.home(5, 5), Err(Refusal::NoSuchPlace))?;
-    check_eq(pile.home(99, 200), Err(Refusal::CountNotTaken))
+    assert_eq!(rt; pile.content(5, 8), Err(Refusal::NoSuchPlace));
+    assert_eq!(rt; pile.content(99, 200), Err(Refusal::CountNotTaken));
+    assert_eq!(rt; pile.home(5, 5), Err(Refusal::NoSuchPlace));
+    assert_eq!(rt; pile.home(99, 200), Err(Refusal::CountNotTaken));
 }
 
 // Its markers are the top's, then the middle's, then the lowest's.
-fn markers_agree<S: MarkedStage>(pile: &S) -> Result<(), Fail> {
-    check_eq(pile.marker_count(5), Ok(3))?;
+fn markers_agree<S: MarkedStage>(rt: &impl Abort, pile: &S) {
+    assert_eq!(rt; pile.marker_count(5), Ok(3));
     for (index, bit) in [(0, false), (1, false), (2, true)] {
-        check_eq(pile.marker(5, index), Ok(Marker { place: index, bit }))?;
+        assert_eq!(rt; pile.marker(5, index), Ok(Marker { place: index, bit }));
     }
-    check_eq(pile.marker(5, 3), Err(Refusal::NoSuchPlace))?;
-    check_eq(pile.marker_count(99), Err(Refusal::CountNotTaken))?;
-    check_eq(pile.marker(99, 3), Err(Refusal::CountNotTaken))
+    assert_eq!(rt; pile.marker(5, 3), Err(Refusal::NoSuchPlace));
+    assert_eq!(rt; pile.marker_count(99), Err(Refusal::CountNotTaken));
+    assert_eq!(rt; pile.marker(99, 3), Err(Refusal::CountNotTaken));
 }
 
 #[test]
-fn pile_of_a_pile_below() -> Result<(), Fail> {
+fn pile_of_a_pile_below(rt: HostRuntime) {
     let pile = Pile::new(Pile::new(LOW, MIDDLE), TOP);
-    agrees(&pile)?;
-    markers_agree(&pile)
+    agrees(&rt, &pile);
+    markers_agree(&rt, &pile);
 }
 
 #[test]
-fn pile_of_a_pile_above() -> Result<(), Fail> {
+fn pile_of_a_pile_above(rt: HostRuntime) {
     let pile = Pile::new(LOW, Pile::new(MIDDLE, TOP));
-    agrees(&pile)?;
-    markers_agree(&pile)
+    agrees(&rt, &pile);
+    markers_agree(&rt, &pile);
 }
 
 #[test]
-fn wire_takes_up_to_ten_thousand() -> Result<(), Fail> {
+fn wire_takes_up_to_ten_thousand(rt: HostRuntime) {
     for (n, length) in [
         (0, Ok(0)),
         (10_000, Ok(10_000)),
         (10_001, Err(Refusal::CountNotTaken)),
     ] {
-        check_eq(Wire.length(n), length)?;
+        assert_eq!(rt; Wire.length(n), length);
     }
-    check_eq(Wire.content(10_000, 9_999), Ok(Content::Carried(9_999)))?;
-    check_eq(Wire.content(10_000, 10_000), Err(Refusal::NoSuchPlace))?;
-    check_eq(Wire.home(0, 0), Err(Refusal::NoSuchPlace))?;
-    check_eq(Wire.home(10_001, 0), Err(Refusal::CountNotTaken))?;
-    check_eq(Wire.marker_count(10_000), Ok(0))?;
-    check_eq(Wire.marker(10_000, 0), Err(Refusal::NoSuchPlace))
+    assert_eq!(rt; Wire.content(10_000, 9_999), Ok(Content::Carried(9_999)));
+    assert_eq!(rt; Wire.content(10_000, 10_000), Err(Refusal::NoSuchPlace));
+    assert_eq!(rt; Wire.home(0, 0), Err(Refusal::NoSuchPlace));
+    assert_eq!(rt; Wire.home(10_001, 0), Err(Refusal::CountNotTaken));
+    assert_eq!(rt; Wire.marker_count(10_000), Ok(0));
+    assert_eq!(rt; Wire.marker(10_000, 0), Err(Refusal::NoSuchPlace));
 }
 
 #[test]
-fn one_list_of_two_kinds() -> Result<(), Fail> {
+fn one_list_of_two_kinds(rt: HostRuntime) -> Result<(), Fail> {
     let stages: [Either<Wire, Inverter>; 2] = [Either::Left(Wire), Either::Right(LOW)];
     let mut total = 0usize;
     for stage in &stages {
         total = total.saturating_add(stage.length(40)?);
     }
-    check_eq(total, 81)
+    assert_eq!(rt; total, 81);
+    Ok(())
 }
 
 // The burst of the octet 0x01 through the pile of three: its bits in front, and the 48 coded bits inverted.
 const WORKED: &[u8; 51] = b"001000011000010100000001111111111111111111111111111";
 
 #[test]
-fn writes_a_burst() -> Result<(), Fail> {
+fn writes_a_burst(rt: HostRuntime) {
     let pile = Pile::new(Pile::new(LOW, MIDDLE), TOP);
     let mut out = [9u8; 60];
-    check_eq(write(&pile, &[0x01], &mut out), Ok(51))?;
+    assert_eq!(rt; write(&pile, &[0x01], &mut out), Ok(51));
     for (place, digit) in WORKED.iter().enumerate() {
-        check_eq(out[place], *digit & 1)?;
+        assert_eq!(rt; out[place], *digit & 1);
     }
     for octet in &out[51..60] {
-        check_eq(*octet, 9)?;
+        assert_eq!(rt; *octet, 9);
     }
-    Ok(())
 }
 
 // The pile of three refuses a text of this many zero octets and leaves `out` as it was.
-fn refuses(octets: usize, out: &mut [u8], refusal: Refusal) -> Result<(), Fail> {
+fn refuses(rt: &impl Abort, octets: usize, out: &mut [u8], refusal: Refusal) -> Result<(), Fail> {
     let zeros = [0u8; 241];
     let Some(text) = zeros.get(0..octets) else {
         return Err(Fail::new("the text is too long for this trial"));
     };
-    check_eq(
+    assert_eq!(rt;
         write(&Pile::new(Pile::new(LOW, MIDDLE), TOP), text, out),
-        Err(refusal),
-    )?;
+        Err(refusal)
+    );
     for octet in out.iter() {
-        check_eq(*octet, 9)?;
+        assert_eq!(rt; *octet, 9);
     }
     Ok(())
 }
 
 #[test]
-fn refuses_in_order() -> Result<(), Fail> {
+fn refuses_in_order(rt: HostRuntime) -> Result<(), Fail> {
     let mut short = [9u8; 50];
-    refuses(0, &mut short, Refusal::EmptyText)?;
-    refuses(241, &mut short, Refusal::TextTooLong)?;
-    refuses(3, &mut short, Refusal::CountNotTaken)?;
-    refuses(1, &mut short, Refusal::MemoryTooShort)
+    refuses(&rt, 0, &mut short, Refusal::EmptyText)?;
+    refuses(&rt, 241, &mut short, Refusal::TextTooLong)?;
+    refuses(&rt, 3, &mut short, Refusal::CountNotTaken)?;
+    refuses(&rt, 1, &mut short, Refusal::MemoryTooShort)
 }

@@ -1,14 +1,9 @@
 // Trials of `nearest_text`: all strings of one octet scored by the plain sum, long texts with as much noise as is corrected,
 // the least noise that goes astray, and the refusals in their order.
-use crate::LOST;
-use crate::Levels;
-use crate::LevelsSoftBits;
-use crate::full;
+use crate::{LOST, Levels, full};
 use code::encode;
 use refusal::Refusal;
-use refusal::RefusalDebug;
-use refusal::RefusalPartialEq;
-use std::test::*;
+use std::test::Fail;
 use trellis::nearest_text;
 
 // The levels of 48 coded bits, made from a seed: all lost, at full strength, those with lost ones between, or anything.
@@ -70,17 +65,16 @@ fn spoil(levels: &mut [u8], places: &[usize], wrong: usize, lost: usize) {
 }
 
 #[test]
-fn all_strings_of_one_octet() -> Result<(), Fail> {
+fn all_strings_of_one_octet(rt: HostRuntime) {
     for seed in 0..400 {
         let levels = levels_from(seed);
         let mut text = [0x5A; 2];
         let mut work = [0xFFFF; 12];
         let answer = nearest_text(&Levels { levels: &levels }, 1, &mut text, &mut work);
         let (octet, cost) = nearest_of_all(&levels);
-        check_eq(answer, Ok(cost))?;
-        check_eq(text, [octet, 0x5A])?;
+        assert_eq!(rt; answer, Ok(cost));
+        assert_eq!(rt; text, [octet, 0x5A]);
     }
-    Ok(())
 }
 
 // How many coded bits are wrong and how many lost, and the cost that this makes. Twice the wrong plus the lost is 14
@@ -98,13 +92,13 @@ const CORRECTED: [(usize, usize, u32); 6] = [
 const SPREADS: [(usize, usize); 5] = [(0, 1), (3_001, 2), (7_681, 1), (5, 511), (100, 4)];
 
 #[test]
-fn corrected_noise() -> Result<(), Fail> {
+fn corrected_noise(rt: HostRuntime) {
     let mut sent = [0; 240];
     for (i, octet) in sent.iter_mut().enumerate() {
         *octet = (i.wrapping_mul(151) % 256) as u8;
     }
     let mut bits = [false; 7_696];
-    check_eq(encode(&sent, &mut bits), Ok(7_696))?;
+    assert_eq!(rt; encode(&sent, &mut bits), Ok(7_696));
     for (wrong, lost, cost) in CORRECTED {
         for (first, apart) in SPREADS {
             let mut levels = [0; 7_696];
@@ -119,11 +113,10 @@ fn corrected_noise() -> Result<(), Fail> {
             let mut text = [0xA5; 240];
             let mut work = [0xFFFF; 1_924];
             let answer = nearest_text(&Levels { levels: &levels }, 240, &mut text, &mut work);
-            check_eq(answer, Ok(cost))?;
-            check(text == sent)?;
+            assert_eq!(rt; answer, Ok(cost));
+            assert!(rt; text == sent);
         }
     }
-    Ok(())
 }
 
 // The 16 places where the coded bits of 0x00 and 0x01 differ.
@@ -143,10 +136,10 @@ const ASTRAY: [(u8, usize, usize, u8); 9] = [
 ];
 
 #[test]
-fn least_noise_that_goes_astray() -> Result<(), Fail> {
+fn least_noise_that_goes_astray(rt: HostRuntime) {
     for (sent, wrong, lost, found) in ASTRAY {
         let mut bits = [false; 48];
-        check_eq(encode(&[sent], &mut bits), Ok(48))?;
+        assert_eq!(rt; encode(&[sent], &mut bits), Ok(48));
         let mut levels = [0; 48];
         for (level, bit) in levels.iter_mut().zip(bits.iter()) {
             *level = full(*bit);
@@ -155,10 +148,9 @@ fn least_noise_that_goes_astray() -> Result<(), Fail> {
         let mut text = [0xA5];
         let mut work = [0xFFFF; 12];
         let answer = nearest_text(&Levels { levels: &levels }, 1, &mut text, &mut work);
-        check(answer.is_ok())?;
-        check_eq(text, [found])?;
+        assert!(rt; answer.is_ok());
+        assert_eq!(rt; text, [found]);
     }
-    Ok(())
 }
 
 // The number of octets, the places of text memory and of working memory, and the refusal.
@@ -171,31 +163,31 @@ const REFUSED: [(usize, usize, usize, Refusal); 5] = [
 ];
 
 #[test]
-fn refusals_in_order(rt: LibcRuntime) -> Result<(), Fail> {
+fn refusals_in_order(rt: HostRuntime) -> Result<(), Fail> {
     for (m, places, work_places, refusal) in REFUSED {
         let mut text = vec![in rt.alloc(); 0xA5u8; places]?;
         let mut work = vec![in rt.alloc(); 0xFFFFu16; work_places]?;
         let answer = nearest_text(&Levels { levels: &[] }, m, &mut text, &mut work);
-        check_eq(answer, Err(refusal))?;
+        assert_eq!(rt; answer, Err(refusal));
         for octet in text.iter() {
-            check_eq(*octet, 0xA5).note("a refusal wrote text")?;
+            assert_eq!(rt; *octet, 0xA5, "a refusal wrote text");
         }
         for number in work.iter() {
-            check_eq(*number, 0xFFFF).note("a refusal wrote working memory")?;
+            assert_eq!(rt; *number, 0xFFFF, "a refusal wrote working memory");
         }
     }
     Ok(())
 }
 
 #[test]
-fn longest_text_of_lost_bits(rt: LibcRuntime) -> Result<(), Fail> {
+fn longest_text_of_lost_bits(rt: HostRuntime) -> Result<(), Fail> {
     let mut text = vec![in rt.alloc(); 0xA5u8; 241]?;
     let mut work = vec![in rt.alloc(); 0xFFFFu16; 1_925]?;
     let answer = nearest_text(&Levels { levels: &[] }, 240, &mut text, &mut work);
-    check_eq(answer, Ok(977_392))?;
-    check_eq(work.get(1_924).copied(), Some(0xFFFF)).note("past the steps")?;
+    assert_eq!(rt; answer, Ok(977_392));
+    assert_eq!(rt; work.get(1_924).copied(), Some(0xFFFF), "past the steps");
     for (i, octet) in text.iter().enumerate() {
-        check_eq(*octet, if i < 240 { 0 } else { 0xA5 })?;
+        assert_eq!(rt; *octet, if i < 240 { 0 } else { 0xA5 });
     }
     Ok(())
 }

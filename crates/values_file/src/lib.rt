@@ -1,16 +1,12 @@
 // The values file of a burst at full strength: a line for the text's length, then a line for each frame.
-ghost use mathlib.Core.Path.{_≡_};
-ghost use Prim.Native.Nat.{_<_};
-ghost use lib.ListN.{length};
-ghost use Rattle·refusal.specs.Answer.{after};
-ghost use Rattle·stage.specs.Elements.{full-strength};
-ghost use Rattle·values_file·specs.Values.{digit as digit-of, two-digits, line-of, values-file, values-size-answer, values-answer};
+ghost use Rattle.std.specs.Prelude.{◌≡◌, ◌<◌, length};
+ghost use Rattle.refusal.specs.Answer.{after};
+ghost use Rattle.stage.specs.Elements.{full_strength};
+ghost use Rattle.values_file.specs.Values.{digit as digit_of, two_digits, line_of, values_file, values_size_answer, values_answer};
+
 use code::check_length;
 use refusal::Refusal;
-use stage::Element;
-use stage::ElementFromOctet;
-use stage::FRAME_ELEMENTS;
-use stage::check_elements;
+use stage::{Element, FRAME_ELEMENTS, check_elements};
 
 // The most frame lines of a file.
 pub const MOST_FRAMES: usize = 16_384;
@@ -22,8 +18,8 @@ const FRAME_LINE: usize = 5;
 
 // The character of a hexadecimal digit.
 fn digit(n: u8) -> u8
-    requires { ⌜ n < 16 ⌝ }
-    ensures { λ r. ⌜ r ≡ digit-of n ⌝ }
+    requires { n < 16 }
+    ensures { result ≡ digit_of n }
 {
     match n {
         0..=9 => b'0' + n,
@@ -33,14 +29,14 @@ fn digit(n: u8) -> u8
 
 // An octet in two digits.
 fn digits(octet: u8) -> [u8; 2]
-    ensures { λ r. ⌜ r ≡ two-digits octet ⌝ }
+    ensures { result ≡ two_digits octet }
 {
     [digit(octet / 16), digit(octet % 16)]
 }
 
 // The value at which an element is heard where nothing disturbs it.
 fn full_strength(element: Element) -> i8
-    ensures { λ r. ⌜ r ≡ full-strength element ⌝ }
+    ensures { result ≡ full_strength element }
 {
     match element {
         Element::Zero => -127,
@@ -51,7 +47,7 @@ fn full_strength(element: Element) -> i8
 
 // The line of a frame: its two values, each as an octet in two's complement.
 fn frame_line(first: Element, second: Element) -> [u8; FRAME_LINE]
-    ensures { λ r. ⌜ r ≡ line-of first second ⌝ }
+    ensures { result ≡ line_of first second }
 {
     let [a, b] = digits(full_strength(first).cast_unsigned());
     let [c, d] = digits(full_strength(second).cast_unsigned());
@@ -60,7 +56,7 @@ fn frame_line(first: Element, second: Element) -> [u8; FRAME_LINE]
 
 // The length of the values file of a text of m octets and its burst's elements.
 pub fn values_size(m: usize, elements: &[u8]) -> Result<usize, Refusal>
-    ensures { λ r. ⌜ r ≡ values-size-answer m (now (elements .entry)) ⌝ }
+    ensures { result ≡ values_size_answer m elements.now }
 {
     check_length(m)?;
     check_elements(elements)?;
@@ -74,8 +70,8 @@ pub fn values_size(m: usize, elements: &[u8]) -> Result<usize, Refusal>
 // Writes the values file of a text of m octets and its burst's elements into the first places of `out`, and
 // returns its length.
 pub fn write_values(m: usize, elements: &[u8], out: &mut [u8]) -> Result<usize, Refusal>
-    ensures answer { λ r. ⌜ r ≡ values-answer m (now (elements .entry)) (length (now (out .entry))) ⌝ }
-    ensures memory { λ r. ⌜ now (out .exit) ≡ after r (values-file m (now (elements .entry))) (now (out .entry)) ⌝ }
+    ensures answer { result ≡ values_answer m elements.now (length out.old) }
+    ensures memory { out.new ≡ after result (values_file m elements.now) out.old }
 {
     let size = values_size(m, elements)?;
     if out.len() < size {

@@ -1,19 +1,8 @@
 // Plays worked examples of the way out and the way back, and prints each with the result that the rules give by hand.
-use card::Levels;
-use card::Reading;
+use card::{Levels, Reading};
 use exchange::usual_pile;
-use history::Answer;
-use history::Call;
-use history::replay;
-use layout::InserterMarked;
-use layout::InserterStage;
-use layout::InterleaverMarked;
-use layout::InterleaverStage;
-use layout::LeadMarked;
-use layout::LeadStage;
+use history::{Answer, Call, replay};
 use layout::StandardPile;
-use pile::PileMarkedStage;
-use pile::PileStage;
 use refusal::Refusal;
 use roundtrip::read_back;
 use std::io;
@@ -72,17 +61,17 @@ fn inverted(sent: &[u8; SHORTEST], other: &[u8; SHORTEST], n: usize) -> [i8; SHO
 }
 
 // A text of one octet that was read, with its distance.
-fn show_answer(rt: &LibcRuntime, answer: &Answer) -> io::Result<()> {
+fn show_answer(rt: &HostRuntime, answer: &Answer) -> io::Result<()> {
     match answer {
         Answer::Read { text, distance } => {
             let octet = text.octets[0];
-            println!(rt, "{octet} at {distance}")
+            println!(rt; "{octet} at {distance}")
         }
         Answer::Refused(refusal) => {
             let number = refusal.number();
-            println!(rt, "refused {number}")
+            println!(rt; "refused {number}")
         }
-        Answer::Done | Answer::Found { .. } => println!(rt, "no text"),
+        Answer::Done | Answer::Found { .. } => println!(rt; "no text"),
     }
 }
 
@@ -126,74 +115,71 @@ fn four_reads<'c>(
 }
 
 // The burst of 0 with 7, 8 and 9 of its places turned into those of 1, and values that say nothing.
-fn show_reads(rt: &LibcRuntime) -> io::Result<()> {
+fn show_reads(rt: &HostRuntime) -> io::Result<()> {
     let zero = burst_of(0x00);
     let one = burst_of(0x01);
     let differ = differing(&zero, &one);
-    println!(
-        rt,
-        "places where the bursts of 0 and 1 differ: expected 16, got {differ}"
-    )?;
+    println!(rt; "places where the bursts of 0 and 1 differ: expected 16, got {differ}")?;
     let seven = inverted(&zero, &one, 7);
     let eight = inverted(&zero, &one, 8);
     let nine = inverted(&zero, &one, 9);
     let answers = four_reads(&usual_pile(), &seven, &eight, &nine, &[0; SHORTEST]);
-    print!(rt, "7 of them inverted in 0: expected 0 at 1778, got ")?;
+    print!(rt; "7 of them inverted in 0: expected 0 at 1778, got ")?;
     show_answer(rt, &answers[2])?;
-    print!(rt, "8 of them inverted in 0: expected 0 at 2032, got ")?;
+    print!(rt; "8 of them inverted in 0: expected 0 at 2032, got ")?;
     show_answer(rt, &answers[5])?;
-    print!(rt, "9 of them inverted in 0: expected 1 at 1778, got ")?;
+    print!(rt; "9 of them inverted in 0: expected 1 at 1778, got ")?;
     show_answer(rt, &answers[8])?;
-    print!(rt, "90 frames of zeros: expected 0 at 21336, got ")?;
+    print!(rt; "90 frames of zeros: expected 0 at 21336, got ")?;
     show_answer(rt, &answers[11])
 }
 
 // What writing the burst of a text answers.
-fn show_written(rt: &LibcRuntime, answer: Result<usize, Refusal>) -> io::Result<()> {
+fn show_written(rt: &HostRuntime, answer: Result<usize, Refusal>) -> io::Result<()> {
     match answer {
-        Ok(length) => println!(rt, "{length} elements"),
+        Ok(length) => println!(rt; "{length} elements"),
         Err(refusal) => {
             let number = refusal.number();
-            println!(rt, "refused {number}")
+            println!(rt; "refused {number}")
         }
     }
 }
 
 // The longest text, and one octet more.
-fn show_lengths(rt: &LibcRuntime) -> io::Result<()> {
+fn show_lengths(rt: &HostRuntime) -> io::Result<()> {
     let mut elements = [0; LONGEST];
-    print!(rt, "240 octets: expected 9354 elements, got ")?;
+    print!(rt; "240 octets: expected 9354 elements, got ")?;
     show_written(rt, write(&usual_pile(), &[0; 240], &mut elements))?;
-    print!(rt, "241 octets: expected refused 2, got ")?;
+    print!(rt; "241 octets: expected refused 2, got ")?;
     show_written(rt, write(&usual_pile(), &[0; 241], &mut elements))
 }
 
 // The values of a card reading.
-fn show_reading(rt: &LibcRuntime, reading: Reading) -> io::Result<()> {
+fn show_reading(rt: &HostRuntime, reading: Reading) -> io::Result<()> {
     match reading.values() {
-        Ok((first, second)) => println!(rt, "{first} and {second}"),
+        Ok((first, second)) => println!(rt; "{first} and {second}"),
         Err(refusal) => {
             let number = refusal.number();
-            println!(rt, "refused {number}")
+            println!(rt; "refused {number}")
         }
     }
 }
 
-fn show_card(rt: &LibcRuntime) -> io::Result<()> {
+fn show_card(rt: &HostRuntime) -> io::Result<()> {
     let levels = Levels {
         hz400: 2.0,
         hz600: 0.0,
         hz800: 8.0,
         hz1000: 0.0,
     };
-    print!(rt, "levels 2, 0, 8, 0: expected 95 and -127, got ")?;
+    print!(rt; "levels 2, 0, 8, 0: expected 95 and -127, got ")?;
     show_reading(rt, Reading::Levels(levels))?;
-    print!(rt, "balances 0.5 and -0.5: expected 63 and -63, got ")?;
+    print!(rt; "balances 0.5 and -0.5: expected 63 and -63, got ")?;
     show_reading(rt, Reading::Balance(0.5, -0.5))
 }
 
 // A text written, heard at full strength and read.
-fn show_round_trip(rt: &LibcRuntime) -> io::Result<()> {
+fn show_round_trip(rt: &HostRuntime) -> io::Result<()> {
     let mut elements = [0; LONGEST];
     let mut values = [0i8; LONGEST];
     let mut text = [0u8; 2];
@@ -207,20 +193,17 @@ fn show_round_trip(rt: &LibcRuntime) -> io::Result<()> {
         &mut work,
     );
     let [first, second] = text;
-    print!(
-        rt,
-        "octets 72 and 105 read back: expected 72 and 105 at 0, got "
-    )?;
+    print!(rt; "octets 72 and 105 read back: expected 72 and 105 at 0, got ")?;
     match answer {
-        Ok(distance) => println!(rt, "{first} and {second} at {distance}"),
+        Ok(distance) => println!(rt; "{first} and {second} at {distance}"),
         Err(refusal) => {
             let number = refusal.number();
-            println!(rt, "refused {number}")
+            println!(rt; "refused {number}")
         }
     }
 }
 
-fn main(rt: LibcRuntime) -> io::Result<()> {
+fn main(rt: HostRuntime) -> io::Result<()> {
     show_reads(&rt)?;
     show_lengths(&rt)?;
     show_card(&rt)?;

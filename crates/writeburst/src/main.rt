@@ -4,21 +4,14 @@ mod report;
 mod request;
 mod stop;
 
-use crate::report::ReportDisplay;
-use crate::stop::StopDisplay;
-use crate::stop::StopFromAlloc;
-use crate::stop::StopFromFailure;
 use report::Report;
-use request::Request;
-use request::request_of;
+use request::{Request, request_of};
 use std::env;
-use std::io::Read;
-use std::io::Write;
-use stop::Stop;
-use stop::USAGE;
+use std::io::{Read, Write};
+use stop::{Stop, USAGE};
 
 // What the arguments ask for.
-fn asked(rt: &LibcRuntime) -> Result<Request, Stop> {
+fn asked(rt: &HostRuntime) -> Result<Request, Stop> {
     let arguments = match env::args(rt) {
         Ok(arguments) => arguments,
         Err(error) => return Err(Stop::Arguments(error)),
@@ -28,7 +21,7 @@ fn asked(rt: &LibcRuntime) -> Result<Request, Stop> {
 }
 
 // The text on standard input, or as much of it as is enough to refuse it.
-fn read_text(rt: &LibcRuntime) -> Result<Vec<u8>, Stop> {
+fn read_text(rt: &HostRuntime) -> Result<Vec<u8>, Stop> {
     let mut text = Vec::new(rt.alloc());
     let limit = exchange::read_limit() as u64;
     match rt.stdin().take(limit).read_to_end(&mut text) {
@@ -38,7 +31,7 @@ fn read_text(rt: &LibcRuntime) -> Result<Vec<u8>, Stop> {
 }
 
 // Writes octets to standard output.
-fn write_out(rt: &LibcRuntime, octets: &[u8]) -> Result<(), Stop> {
+fn write_out(rt: &HostRuntime, octets: &[u8]) -> Result<(), Stop> {
     match rt.stdout().write_all(octets) {
         Ok(()) => Ok(()),
         Err(error) => Err(Stop::Write(error)),
@@ -46,10 +39,10 @@ fn write_out(rt: &LibcRuntime, octets: &[u8]) -> Result<(), Stop> {
 }
 
 // Writes what the arguments ask for.
-fn run(rt: &LibcRuntime) -> Result<(), Stop> {
+fn run(rt: &HostRuntime) -> Result<(), Stop> {
     let heap = rt.alloc();
     match asked(rt)? {
-        Request::Help => write_out(rt, format!(heap, "{USAGE}\n")?.as_bytes()),
+        Request::Help => write_out(rt, format!(in heap; "{USAGE}\n")?.as_bytes()),
         Request::Values => write_out(rt, &exchange::values(heap, &read_text(rt)?)?),
         Request::Sound => write_out(rt, &exchange::sound(heap, &read_text(rt)?)?),
         Request::Layers => {
@@ -61,16 +54,16 @@ fn run(rt: &LibcRuntime) -> Result<(), Stop> {
                 coded: &coded,
                 burst: &burst,
             };
-            write_out(rt, format!(heap, "{report}")?.as_bytes())
+            write_out(rt, format!(in heap; "{report}")?.as_bytes())
         }
     }
 }
 
-fn main(rt: LibcRuntime) -> Result<(), Stop> {
+fn main(rt: HostRuntime) -> Result<(), Stop> {
     match run(&rt) {
         Ok(()) => Ok(()),
         Err(stop) => {
-            let _ = eprintln!(rt, "{}", &stop);
+            let _ = eprintln!(rt; "{}", &stop);
             Err(stop)
         }
     }

@@ -1,9 +1,7 @@
 // The one place that says how the layers are printed.
 use stage::Element;
-use stage::ElementFromOctet;
 use std::fmt;
 use tone::Tone;
-use tone::ToneFromElements;
 
 // A text with its octets, coded bits, elements and tones.
 #[derive(Drop)]
@@ -13,7 +11,7 @@ pub struct Report<'a> {
     pub burst: &'a [u8],
 }
 
-pub impl fmt::Display for Report<'_> as ReportDisplay {
+impl fmt::Display for Report<'_> {
     fn fmt<W: fmt::Write>(&self, f: &mut fmt::Formatter<W>) -> fmt::Result {
         let octets = self.text.len();
         writeln!(f, "octets: {octets}")?;
@@ -43,7 +41,7 @@ pub impl fmt::Display for Report<'_> as ReportDisplay {
 #[derive(Drop)]
 struct Octets<'a>(&'a [u8]);
 
-impl fmt::Display for Octets<'_> as OctetsDisplay {
+impl fmt::Display for Octets<'_> {
     fn fmt<W: fmt::Write>(&self, f: &mut fmt::Formatter<W>) -> fmt::Result {
         for octet in self.0 {
             write!(f, " {octet:02X}")?;
@@ -56,7 +54,7 @@ impl fmt::Display for Octets<'_> as OctetsDisplay {
 #[derive(Drop)]
 struct Steps<'a>(&'a [bool]);
 
-impl fmt::Display for Steps<'_> as StepsDisplay {
+impl fmt::Display for Steps<'_> {
     fn fmt<W: fmt::Write>(&self, f: &mut fmt::Formatter<W>) -> fmt::Result {
         for (i, bit) in self.0.iter().enumerate() {
             if i % 4 == 0 {
@@ -72,20 +70,18 @@ impl fmt::Display for Steps<'_> as StepsDisplay {
 #[derive(Drop)]
 struct Elements<'a>(&'a [u8]);
 
-impl fmt::Display for Elements<'_> as ElementsDisplay {
+impl fmt::Display for Elements<'_> {
     fn fmt<W: fmt::Write>(&self, f: &mut fmt::Formatter<W>) -> fmt::Result {
         for (i, element) in self.0.iter().enumerate() {
             if i % 8 == 0 {
                 f.write_str(" ")?;
             }
-            f.write_str(
-                match Element::try_from(*element) {
-                    Ok(Element::Zero) => "0",
-                    Ok(Element::One) => "1",
-                    Ok(Element::Mute) => ".",
-                    Err(_) => "?",
-                },
-            )?;
+            f.write_str(match Element::try_from(*element) {
+                Ok(Element::Zero) => "0",
+                Ok(Element::One) => "1",
+                Ok(Element::Mute) => ".",
+                Err(_) => "?",
+            })?;
         }
         Ok(())
     }
@@ -95,7 +91,7 @@ impl fmt::Display for Elements<'_> as ElementsDisplay {
 #[derive(Drop)]
 struct Tones<'a>(&'a [u8]);
 
-impl fmt::Display for Tones<'_> as TonesDisplay {
+impl fmt::Display for Tones<'_> {
     fn fmt<W: fmt::Write>(&self, f: &mut fmt::Formatter<W>) -> fmt::Result {
         for pair in self.0.chunks(2) {
             let [first, second] = pair else {

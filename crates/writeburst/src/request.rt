@@ -1,7 +1,6 @@
 // What the arguments ask for.
-ghost use mathlib.Core.List.{map, [], _∷_};
-ghost use Rattle·std.specs.Of.String.{string-bytes};
-ghost use Rattle·writeburst·specs.Requests.{Asks};
+ghost use Rattle.std.specs.Prelude.{[], ◌∷◌, map, string_bytes};
+ghost use Rattle.writeburst.specs.Requests.{Asks};
 
 // What is written of a text.
 #[derive(Clone, Copy)]
@@ -14,7 +13,7 @@ pub enum Request {
 
 // What the words behind the program's name ask for.
 pub fn request_of(words: &[String]) -> Option<Request>
-    ensures { λ r. ⌜ Asks (map string-bytes (now (words .entry))) r ⌝ }
+    ensures { Asks (map string_bytes words.now) result }
 {
     if words.len() == 0 {
         Some(Request::Layers)
@@ -27,7 +26,7 @@ pub fn request_of(words: &[String]) -> Option<Request>
 
 // What a single word asks for.
 fn from_word(word: &str) -> Option<Request>
-    ensures { λ r. ⌜ Asks (now (word .entry) ∷ []) r ⌝ }
+    ensures { Asks (word.now ∷ []) result }
 {
     match word {
         "values" => Some(Request::Values),

@@ -1,13 +1,12 @@
 // Why the program stops without writing what was asked for.
-ghost use mathlib.Core.Path.{_≡_};
-ghost use Rattle·exchange.specs.declared.failure.Failure.the-variants.{OutOfMemory};
-ghost use Rattle·writeburst·specs.declared.stop.Stop.the-variants.{Failed};
-ghost use Rattle·writeburst·specs.Requests.{stop-line};
+ghost use Rattle.std.specs.Prelude.{◌≡◌};
+ghost use Rattle.exchange.specs.declared.failure.Failure.TheVariants.{OutOfMemory};
+ghost use Rattle.writeburst.specs.declared.stop.Stop.TheVariants.{Failed};
+ghost use Rattle.writeburst.specs.Requests.{stop_line};
+
 use exchange::Failure;
-use exchange::FailureDisplay;
 use std::alloc::AllocError;
-use std::fmt;
-use std::io;
+use std::{fmt, io};
 
 pub const USAGE: &str = "usage: writeburst [values | sound | --help] < TEXT";
 
@@ -25,24 +24,24 @@ pub enum Stop {
     Failed(Failure),
 }
 
-pub impl From<Failure> for Stop as StopFromFailure {
-    ghost converts = { λ failure r. r ≡ Failed failure };
+impl From<Failure> for Stop {
+    ghost from_gives = { λ failure r. r ≡ Failed failure };
 
     fn from(failure: Failure) -> Stop {
         Stop::Failed(failure)
     }
 }
 
-pub impl From<AllocError> for Stop as StopFromAlloc {
-    ghost converts = { λ _ r. r ≡ Failed OutOfMemory };
+impl From<AllocError> for Stop {
+    ghost from_gives = { λ _ r. r ≡ Failed OutOfMemory };
 
     fn from(_error: AllocError) -> Stop {
         Stop::Failed(Failure::OutOfMemory)
     }
 }
 
-pub impl fmt::Display for Stop as StopDisplay {
-    ghost shown = { λ stop. stop-line stop };
+impl fmt::Display for Stop {
+    ghost output = { λ stop. stop_line stop };
 
     fn fmt<W: fmt::Write>(&self, f: &mut fmt::Formatter<W>) -> fmt::Result {
         match self {

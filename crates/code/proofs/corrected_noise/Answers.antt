@@ -1,12 +1,12 @@
 -- The theorem on the noise that is corrected.
-use mathlib.Core.Path.{subst, sym}
-use Rattle·code·specs.Separation.{Corrects}
-use Rattle·code·proofs.Correction.{corrects-fifteen}
-use Rattle·code·proofs.corrected_noise.Needs as need
+use Rattle.std.proofs.Common.{sym, subst}
+use Rattle.code.specs.Separation.{Corrects}
+use Rattle.code.proofs.Correction.{corrects_fifteen}
+use Rattle.code.proofs.corrected_noise.Goals as goal
 
-pub returns : need.returns
+pub returns : goal.returns
 returns c =
     record {
-      fifteen = c .noise-below .ensures;
-      corrects = subst (λ n. Corrects n) (sym (c .noise-below .ensures)) corrects-fifteen;
+      fifteen = c.noise-below.ensures;
+      corrects = subst (λ n. Corrects n) (sym c.noise-below.ensures) corrects_fifteen;
     }

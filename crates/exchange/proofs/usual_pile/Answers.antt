@@ -1,10 +1,10 @@
-use Rattle·exchange·proofs.Examples.{worked-examples}
-use Rattle·exchange·proofs.usual_pile.Needs as need
+use Rattle.exchange.proofs.Examples.{worked_examples}
+use Rattle.exchange.proofs.usual_pile.Goals as goal
 
-pub returns : need.returns
+pub returns : goal.returns
 returns c =
     record {
-      meaning = c .standard-pile .ensures .meaning;
-      markers = c .standard-pile .ensures .markers;
-      worked = worked-examples;
+      meaning = c.standard-pile.ensures.meaning;
+      markers = c.standard-pile.ensures.markers;
+      worked = worked_examples;
     }

@@ -1,10 +1,9 @@
-use mathlib.Core.Path.{_≡_, refl, sym, ap, _∙_}
-use borrow.Author.Needs.{needs}
-use Rattle·receiver.specs.Held.{string-of}
-use Rattle·history·specs.History.{Reply, has-read, answered}
-use Rattle·history·proofs.read.Needs as need
+use Rattle.std.proofs.Common.{◌≡◌, sym, refl, ap, ◌∙◌, rules}
+use Rattle.receiver.specs.Held.{string_of}
+use Rattle.history.specs.History.{Reply, has_read, answered}
+use Rattle.history.proofs.read.Goals as goal
 
-pub returns-in-Ok : need.returns-in-Ok
+pub returns-in-Ok : goal.returns-in-Ok
 returns-in-Ok g c =
-    let string = string-of (c .args .receiver .now) (g .S·Stage .meaning (c .args .pile .now)) (c .args .m) in
-    ap (λ t. has-read t (c .in-Ok .distance)) (c .in-Ok .ensures tt .text refl) ∙ ap (answered (has-read string)) (c .in-Ok .ensures tt .answer)
+    let string = string_of c.args.receiver.now (g.S.Stage.meaning c.args.pile.now) c.args.m in
+    ap (λ t. has_read t c.in-Ok.distance) (c.in-Ok.ensures.text refl) ∙ ap (answered (has_read string)) c.in-Ok.ensures.answer

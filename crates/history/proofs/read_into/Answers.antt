@@ -1,21 +1,17 @@
-use mathlib.Core.Path.{_≡_, refl, sym, ap, _∙_}
-use Prim.Native.Nat.{min}
-use native.Mathlib.Omega.{arith}
-use borrow.Author.Needs.{needs}
-use lib.ListN.{length}
-use Rattle·std.proofs.shelf.Lists.{length-take}
-use Rattle·std.proofs.shelf.Tests.{cond-true}
-use Rattle·receiver.specs.Held.{held}
-use Rattle·receiver.specs.State.{standing}
-use Rattle·history·proofs.Lent.{cut-answered, text-first}
-use Rattle·history·proofs.read_into.Needs as need
+use Rattle.std.proofs.Common.{◌≡◌, min, length, sym, refl, ap, ◌∙◌, arith, rules}
+use Rattle.std.proofs.lemmas.List.{length-take}
+use Rattle.std.proofs.lemmas.Bool.{cond-true}
+use Rattle.receiver.specs.Held.{held}
+use Rattle.receiver.specs.State.{standing}
+use Rattle.history.proofs.Lent.{cut_answered, text_first}
+use Rattle.history.proofs.read_into.Goals as goal
 
-pub returns : need.returns
+pub returns : goal.returns
 returns g c =
-    let r = c .args .receiver .now in
+    let r = c.args.receiver.now in
     let v = standing (held r) in
-    let p = g .S·Stage .meaning (c .args .pile .now) in
+    let p = g.S.Stage.meaning c.args.pile.now in
     record {
-      answer = cut-answered v (r .start) p (c .args .m) (c .args .text) (c .args .work) _ _ (c .read .result) (simp length-take (omega (arith, c .pre .octets))) (simp length-take (omega (arith, c .pre .steps))) (c .read .ensures .answer);
-      text = λ ok. text-first v (r .start) p (c .args .m) (c .read .last .text) _ _ (c .read .ensures .text ∙ cond-true _ _ _ ok);
+      answer = cut_answered v r.start p c.args.m c.args.text c.args.work _ _ c.read.result (simp length-take (omega (arith, c.requires.octets))) (simp length-take (omega (arith, c.requires.steps))) c.read.ensures.answer;
+      text = λ ok. text_first v r.start p c.args.m c.read.new.text _ _ (c.read.ensures.text ∙ cond-true _ _ _ ok);
     }

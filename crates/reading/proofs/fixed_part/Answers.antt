@@ -1,27 +1,22 @@
-use borrow.Author.Needs.{needs}
-use native.Mathlib.Omega.{arith}
-use Prim.Native.Nat.{_≤_, _<_, _+_}
-use mathlib.Core.Path.{_∙_}
-use mir.Val.{SFits}
-use mir.Syntax.{w8}
-use Rattle·stage.proofs.AnswersKnown.{length-known}
-use Rattle·reading·proofs.Soft.{fixed-more}
-use Rattle·reading·proofs.fixed_part.Needs as need
+use Rattle.std.proofs.Common.{◌+◌, ◌<◌, ◌≤◌, ◌∙◌, arith, w8, SFits, rules}
+use Rattle.stage.proofs.AnswersKnown.{length_known}
+use Rattle.reading.proofs.Soft.{fixed_more}
+use Rattle.reading.proofs.fixed_part.Goals as goal
 
-pub add-sum : need.add-sum
-add-sum g c =
-    let m = g .S·Stage .meaning (c .args .pile .now) in
-    let long = length-known m (c .args .n) (c .in-Continue-place-end .place-end) (c .in-Continue-place-end .ensures tt) in
-    let most = g .S·Stage·met .homes (c .args .pile .now) .most (c .args .n) (long .0) in
-    let size = long .1 in
-    let so-far = c .loop-place .inv .1 in
-    search needs
+pub overflow-add-sum : goal.overflow-add-sum
+overflow-add-sum g c =
+    let m = g.S.Stage.meaning c.args.pile.now in
+    let long = length_known m c.args.n c.in-ok-place-end.place-end c.in-ok-place-end.ensures in
+    let most = (g.met.S.Stage.homes c.args.pile.now).most c.args.n long.0 in
+    let size = long.1 in
+    let so_far = c.loop-place.invariant.1 in
+    search rules
 
-pub loop-place-again : need.loop-place-again
-loop-place-again g c =
-    let v = g .V·Values .standing (c .args .values .now) in
-    let m = g .S·Stage .meaning (c .args .pile .now) in
-    let fits : SFits w8 (c .value .result) = search needs in (
-      fixed-more v (c .args .start) m (c .args .n) (c .loop-place .place) _ _ (c .in-Continue-content .content) (c .value .result) (c .loop-place .inv .0) (c .in-Continue-content .ensures tt) (c .value .ensures) fits (c .from-sum .ensures ∙ c .fixed-gap .ensures),
-      omega (arith, c .loop-place .inv .1, c .fixed-gap .ok),
+pub loop-place-preserved : goal.loop-place-preserved
+loop-place-preserved g c =
+    let v = g.V.Values.standing c.args.values.now in
+    let m = g.S.Stage.meaning c.args.pile.now in
+    let fits : SFits w8 c.value.result = search rules in (
+      fixed_more v c.args.start m c.args.n c.loop-place.place _ _ c.in-ok-content.content c.value.result c.loop-place.invariant.0 c.in-ok-content.ensures c.value.ensures fits (c.from-sum.ensures ∙ c.fixed_gap.ensures),
+      omega (arith, c.loop-place.invariant.1, c.fixed_gap.type-inv),
     )

@@ -1,45 +1,38 @@
-use mathlib.Core.List.{_∷_, [], map}
-use mathlib.Core.Path.{_≡_, refl, sym, ap, subst, _∙_}
-use Prim.Native.Nat.{ℕ, _<_}
-use native.Mathlib.Omega.{arith}
-use borrow.Author.Needs.{needs}
-use lib.ListN.{length, take}
-use mir.Syntax.{w8}
-use mir.Val.{SFits}
-use Rattle·std.proofs.shelf.Lists.{take-all}
-use Rattle·std.proofs.shelf.Signed.{toZ-ofZ}
-use Rattle·refusal.specs.Answer.{laid}
-use Rattle·receiver.specs.State.{hears, hear-answer}
-use Rattle·receiver.specs.Held.{memory-of, room, held, Follows}
-use Rattle·roundtrip·specs.RoundTrip.{strength-of}
-use Rattle·roundtrip·proofs.Hearing.{one-accepted, one-more}
-use Rattle·roundtrip·proofs.hear_elements.Needs as need
+use Rattle.std.proofs.Common.{◌≡◌, ℕ, ◌<◌, [], ◌∷◌, map, length, take, sym, refl, ap, ◌∙◌, subst, arith, w8, SFits, rules}
+use Rattle.std.proofs.lemmas.List.{take_all}
+use Rattle.std.proofs.lemmas.Int.{to_z-of_z}
+use Rattle.refusal.specs.Answer.{laid}
+use Rattle.receiver.specs.State.{hears, hear_answer}
+use Rattle.receiver.specs.Held.{memory_of, room, held, Follows}
+use Rattle.roundtrip.specs.RoundTrip.{strength_of}
+use Rattle.roundtrip.proofs.Hearing.{one_accepted, one_more}
+use Rattle.roundtrip.proofs.hear_elements.Goals as goal
 
-pub returns-in-Break-hear : need.returns-in-Break-hear
-returns-in-Break-hear c =
-    let r = c .loop-i .receiver in
-    let ok = one-accepted (c .args .receiver .now) r (c .args .octets .now) (c .loop-i .i) (c .loop-i-test .taken) (c .pre .fits) (c .loop-i .inv) in
-    let fits : SFits w8 (c .strength .result) = search needs in
-    let refused = c .in-Break-hear .ensures tt .answer ∙ ap (λ x. hear-answer (room r) (held r .values) (x ∷ [])) (toZ-ofZ w8 _ fits ∙ c .strength .ensures) ∙ ok in
-    let z : _≡_ {A = ℕ} 0 1 = cc in
+pub returns-in-err-hear : goal.returns-in-err-hear
+returns-in-err-hear c =
+    let r = c.loop-i.receiver in
+    let ok = one_accepted c.args.receiver.now r c.args.octets.now c.loop-i.i c.loop-i-test.true c.requires.fits c.loop-i.invariant in
+    let fits : SFits w8 c.strength.result = search rules in
+    let refused = c.in-err-hear.ensures.answer ∙ ap (λ x. hear_answer (room r) (held r).values (x ∷ [])) (to_z-of_z w8 _ fits ∙ c.strength.ensures) ∙ ok in
+    let z : ◌≡◌ {A = ℕ} 0 1 = cc in
     absurd (omega arith)
 
-pub loop-i-again : need.loop-i-again
-loop-i-again c =
-    let r = c .loop-i .receiver in
-    let fits : SFits w8 (c .strength .result) = search needs in
-    one-more (c .args .receiver .now) r (c .args .octets .now) (c .loop-i .i) (c .loop-i-test .taken) (c .pre .fits) (c .loop-i .inv) (c .hear .last .self)
-    (subst (λ x. Follows r (hears (x ∷ [])) (c .hear .last .self)) (toZ-ofZ w8 _ fits ∙ c .strength .ensures) (c .in-Continue-hear .ensures tt .after))
+pub loop-i-preserved : goal.loop-i-preserved
+loop-i-preserved c =
+    let r = c.loop-i.receiver in
+    let fits : SFits w8 c.strength.result = search rules in
+    one_more c.args.receiver.now r c.args.octets.now c.loop-i.i c.loop-i-test.true c.requires.fits c.loop-i.invariant c.hear.new.self
+    (subst (λ x. Follows r (hears (x ∷ [])) c.hear.new.self) (to_z-of_z w8 _ fits ∙ c.strength.ensures) c.in-ok-hear.ensures.after)
 
-pub returns : need.returns
+pub returns : goal.returns
 returns c =
-    let octets = c .args .octets .now in
-    let inv = c .loop-i .inv in
-    let all : take (c .loop-i .i) octets ≡ octets = take-all (c .loop-i .i) octets (omega arith) in
+    let octets = c.args.octets.now in
+    let inv = c.loop-i.invariant in
+    let all : take c.loop-i.i octets ≡ octets = take_all c.loop-i.i octets (omega arith) in
     record {
       answer = refl;
-      values = inv .values-are ∙ ap (map strength-of) all;
-      start = inv .start-is;
-      memory = inv .memory-is ∙ ap (λ l. laid (map strength-of l) (memory-of (c .args .receiver .now))) all;
-      same = inv .same;
+      values = inv.values_are ∙ ap (map strength_of) all;
+      start = inv.start_is;
+      memory = inv.memory_is ∙ ap (λ l. laid (map strength_of l) (memory_of c.args.receiver.now)) all;
+      same = inv.same;
     }

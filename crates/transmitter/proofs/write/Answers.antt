@@ -1,42 +1,39 @@
-use mathlib.Core.Path.{_≡_, _∙_, refl, ap}
-use Prim.Native.Nat.{_+_, _<_}
-use native.Mathlib.Omega.{arith}
-use lib.ListN.{length, set}
-use Rattle·refusal.proofs.Front.{filled, filled-more}
-use Rattle·transmitter·proofs.Octets.{octet-at, place-octet, place-not-refused, write-there, all-filled}
-use Rattle·transmitter·proofs.write.Needs as need
+use Rattle.std.proofs.Common.{◌≡◌, ◌+◌, ◌<◌, length, set, refl, ap, ◌∙◌, arith}
+use Rattle.refusal.proofs.Front.{filled, filled_more}
+use Rattle.transmitter.proofs.Octets.{octet_at, place_octet, place_not_refused, write_there, all_filled}
+use Rattle.transmitter.proofs.write.Goals as goal
 
-pub returns-in-Break-element : need.returns-in-Break-element
-returns-in-Break-element g c =
-    let s = c .args .stage .now in
-    absurd (place-not-refused (g .S·Stage .meaning s) (g .S·Stage·met .homes s)
-    (c .args .text .now) (c .in-Continue-n .n) (c .in-Continue-n .ensures tt) (c .loop-place .place) (c .in-Continue-content .field-0)
-    (c .in-Break-element .field-0 .0) (c .in-Continue-content .ensures tt) (c .in-Break-element .ensures tt))
+pub returns-in-err-element : goal.returns-in-err-element
+returns-in-err-element g c =
+    let s = c.args.stage.now in
+    absurd (place_not_refused (g.S.Stage.meaning s) (g.met.S.Stage.homes s)
+    c.args.text.now c.in-ok-n.n c.in-ok-n.ensures c.loop-place.place c.in-ok-content.field-0
+    c.in-err-element.field-0.0 c.in-ok-content.ensures c.in-err-element.ensures)
 
-pub loop-place-again : need.loop-place-again
-loop-place-again g c =
-    let s = c .args .stage .now in
-    let m = g .S·Stage .meaning s in
-    let p = c .loop-place .place in
-    let x = c .from .result in
-    let within : p < length (c .args .out .now) = omega arith in
-    ap (λ l. set l p x) (c .loop-place .inv)
-    ∙ filled-more (octet-at m (c .args .text .now)) p (p + 1) (c .args .out .now) x refl within
-    (place-octet m (g .S·Stage·met .homes s) (c .args .text .now) (c .in-Continue-n .n) (c .in-Continue-n .ensures tt) p
-    (c .in-Continue-content .field-0) (c .in-Continue-element .field-0) x (c .in-Continue-content .ensures tt)
-    (c .in-Continue-element .ensures tt) (c .from .ensures))
+pub loop-place-preserved : goal.loop-place-preserved
+loop-place-preserved g c =
+    let s = c.args.stage.now in
+    let m = g.S.Stage.meaning s in
+    let p = c.loop-place.place in
+    let x = c.from.result in
+    let within : p < length c.args.out.now = omega arith in
+    ap (λ l. set l p x) c.loop-place.invariant
+    ∙ filled_more (octet_at m c.args.text.now) p (p + 1) c.args.out.now x refl within
+    (place_octet m (g.met.S.Stage.homes s) c.args.text.now c.in-ok-n.n c.in-ok-n.ensures p
+    c.in-ok-content.field-0 c.in-ok-element.field-0 x c.in-ok-content.ensures
+    c.in-ok-element.ensures c.from.ensures)
 
-pub returns : need.returns
+pub returns : goal.returns
 returns g c =
-    let s = c .args .stage .now in
-    let m = g .S·Stage .meaning s in
-    let text = c .args .text .now in
-    let out = c .args .out .now in
-    let len = c .in-Continue-length .length in
-    let end : c .loop-place .place ≡ len = omega arith in
+    let s = c.args.stage.now in
+    let m = g.S.Stage.meaning s in
+    let text = c.args.text.now in
+    let out = c.args.out.now in
+    let len = c.in-ok-length.length in
+    let end : c.loop-place.place ≡ len = omega arith in
     record {
-      answer = write-there m (g .S·Stage·met .homes s) text (c .in-Continue-n .n) (c .in-Continue-n .ensures tt) len
-          (c .in-Continue-length .ensures tt) (length out) (c .if-out-length .left);
-      memory = c .loop-place .inv ∙ ap (λ z. filled (octet-at m text) z out) end
-          ∙ all-filled m (g .S·Stage·met .homes s) text (c .in-Continue-n .n) (c .in-Continue-n .ensures tt) len (c .in-Continue-length .ensures tt) out;
+      answer = write_there m (g.met.S.Stage.homes s) text c.in-ok-n.n c.in-ok-n.ensures len
+          c.in-ok-length.ensures (length out) c.if-out-length.false;
+      memory = c.loop-place.invariant ∙ ap (λ z. filled (octet_at m text) z out) end
+          ∙ all_filled m (g.met.S.Stage.homes s) text c.in-ok-n.n c.in-ok-n.ensures len c.in-ok-length.ensures out;
     }

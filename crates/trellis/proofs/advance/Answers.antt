@@ -1,29 +1,26 @@
 -- Each turn settles states j and j + 8; the two halves of the decision bits are joined at the end.
-use lib.ListN.{length-set}
-use mathlib.Core.Path.{_≡_, subst}
-use Prim.Native.Nat.{_^_, _<_}
-use native.Mathlib.Omega.{arith}
-use Rattle·trellis·proofs.Decisions.{acc-below, joined, turn}
-use Rattle·trellis·proofs.advance.Needs as need
+use Rattle.std.proofs.Common.{◌≡◌, ◌^◌, ◌<◌, subst, arith, length-set}
+use Rattle.trellis.proofs.Decisions.{acc_below, joined, turn}
+use Rattle.trellis.proofs.advance.Goals as goal
 
-pub loop-j-again : need.loop-j-again
-loop-j-again c =
-    let inv = c .loop-j .inv in
-    let j = c .loop-j .j in
-    let t = turn (c .args .metrics .now) (c .args .costs .now) (c .loop-j .next) (c .loop-j .low) (c .loop-j .high) j (c .branch-label-label .result) (omega arith) (c .branch-label-label .ensures .value)
-    (inv .0) (inv .1) (inv .2) (inv .3) (inv .4) (c .cheaper-to-zero .result .0) (c .cheaper-to-one .result .0)
-    (c .cheaper-to-zero .result .1) (c .cheaper-to-one .result .1) (c .cheaper-to-zero .ensures .metric) (c .cheaper-to-zero .ensures .second)
-    (c .cheaper-to-one .ensures .metric) (c .cheaper-to-one .ensures .second) in (
-      acc-below (c .loop-j .low) j (c .cheaper-to-zero .result .1) (omega arith) (inv .0),
-      acc-below (c .loop-j .high) j (c .cheaper-to-one .result .1) (omega arith) (inv .1),
-      simp length-set (inv .2),
-      t .0,
-      t .1,
+pub loop-j-preserved : goal.loop-j-preserved
+loop-j-preserved c =
+    let inv = c.loop-j.invariant in
+    let j = c.loop-j.j in
+    let t = turn c.args.metrics.now c.args.costs.now c.loop-j.next c.loop-j.low c.loop-j.high j c.branch-label-label.result (omega arith) c.branch-label-label.ensures.value
+    inv.0 inv.1 inv.2 inv.3 inv.4 c.cheaper-to-zero.result.0 c.cheaper-to-one.result.0
+    c.cheaper-to-zero.result.1 c.cheaper-to-one.result.1 c.cheaper-to-zero.ensures.metric c.cheaper-to-zero.ensures.second
+    c.cheaper-to-one.ensures.metric c.cheaper-to-one.ensures.second in (
+      acc_below c.loop-j.low j c.cheaper-to-zero.result.1 (omega arith) inv.0,
+      acc_below c.loop-j.high j c.cheaper-to-one.result.1 (omega arith) inv.1,
+      simp length-set inv.2,
+      t.0,
+      t.1,
     )
 
-pub returns : need.returns
+pub returns : goal.returns
 returns c =
-    let e : c .loop-j .j ≡ 8 = omega arith in
-    let inv = c .loop-j .inv in
-    joined (c .args .metrics .now) (c .args .costs .now) (c .loop-j .next) (c .loop-j .low) (c .loop-j .high)
-    (subst (λ n. c .loop-j .low < 2 ^ n) e (inv .0)) (λ t l. inv .3 t (omega arith)) (λ t l. inv .4 t (omega arith))
+    let e : c.loop-j.j ≡ 8 = omega arith in
+    let inv = c.loop-j.invariant in
+    joined c.args.metrics.now c.args.costs.now c.loop-j.next c.loop-j.low c.loop-j.high
+    (subst (λ n. c.loop-j.low < 2 ^ n) e inv.0) (λ t l. inv.3 t (omega arith)) (λ t l. inv.4 t (omega arith))

@@ -1,11 +1,10 @@
 -- The table holds the labels that the four sums give.
-use native.Mathlib.Omega.{arith}
-use Prim.Native.Nat.{_*_}
-use Rattle·trellis·proofs.Decisions.{label-below, labels-are}
-use Rattle·trellis·proofs.branch_label.Needs as need
+use Rattle.std.proofs.Common.{◌*◌, arith}
+use Rattle.trellis.proofs.Decisions.{label_below, labels_are}
+use Rattle.trellis.proofs.branch_label.Goals as goal
 
-pub returns : need.returns
+pub returns : goal.returns
 returns c =
-    let e = labels-are (c .args .j) (omega arith) in
-    let l = label-below (2 * c .args .j) in
+    let e = labels_are c.args.j (omega arith) in
+    let l = label_below (2 * c.args.j) in
     record { value = e; small = omega arith }

@@ -1,33 +1,28 @@
 -- One octet further back.
-use lib.ListN.{getD, length, set}
-use lib.Seq.{getD-set-same, getD-set-other}
-use mathlib.Core.Logic.{⊎-elim}
-use mathlib.Core.Path.{_≡_, subst, sym, _∙_}
-use native.Mathlib.Omega.{arith}
-use Prim.Native.Nat.{_-_, suc}
-use Rattle·trellis·proofs.Traces.{low-below, octet-agree, octet-back}
-use Rattle·trellis·specs.Trellis.{path-octet, traced}
-use Rattle·std.proofs.shelf.Tests.{cases-eq}
-use Rattle·trellis·proofs.trace_back.Needs as need
+use Rattle.std.proofs.Common.{◌≡◌, suc, ◌-◌, length, get_or, set, sym, ◌∙◌, subst, ⊎_elim, arith, get_or-set_other, get_or-set_same}
+use Rattle.trellis.proofs.Traces.{low_below, octet_agree, octet_back}
+use Rattle.trellis.specs.Trellis.{path_octet, traced}
+use Rattle.std.proofs.lemmas.Bool.{cases_eq}
+use Rattle.trellis.proofs.trace_back.Goals as goal
 
-pub loop-i-again : need.loop-i-again
-loop-i-again c =
-    let work = c .args .work .now in
+pub loop-i-preserved : goal.loop-i-preserved
+loop-i-preserved c =
+    let work = c.args.work.now in
     let path = traced work (length work) 0 in
-    let i = c .loop-i .i in
-    let o = c .loop-i .i - 1 in
-    let high = c .steps-back-high .result in
-    let low = c .steps-back-low .result in
+    let i = c.loop-i.i in
+    let o = c.loop-i.i - 1 in
+    let high = c.steps-back-high.result in
+    let low = c.steps-back-low.result in
     let next : i ≡ suc o = omega arith in
-    let agree = c .loop-i .inv .1 in
-    let text = c .loop-i .text in
-    let found = c .octet-of .result in (
-      low-below work path i o (c .loop-i .state) high low next agree (c .steps-back-high .ensures) (c .steps-back-low .ensures),
-      octet-agree work path i o (c .loop-i .state) high low next agree (c .steps-back-high .ensures) (c .steps-back-low .ensures),
-      λ j p l. ⊎-elim
-          (λ e. subst (λ n. getD (set text o found) n 0 ≡ path-octet n path) (sym e)
-          (getD-set-same text o found 0 (omega arith)
-          ∙ (c .octet-of .ensures ∙ octet-back work path i o (c .loop-i .state) high low next agree (c .steps-back-high .ensures) (c .steps-back-low .ensures))))
-          (λ ne. getD-set-other text o j found 0 ne ∙ c .loop-i .inv .2 j (omega arith) l)
-          (cases-eq j o),
+    let agree = c.loop-i.invariant.1 in
+    let text = c.loop-i.text in
+    let found = c.octet_of.result in (
+      low_below work path i o c.loop-i.state high low next agree c.steps-back-high.ensures c.steps-back-low.ensures,
+      octet_agree work path i o c.loop-i.state high low next agree c.steps-back-high.ensures c.steps-back-low.ensures,
+      λ j p l. ⊎_elim
+          (λ e. subst (λ n. get_or (set text o found) n 0 ≡ path_octet n path) (sym e)
+          (get_or-set_same text o found 0 (omega arith)
+          ∙ (c.octet_of.ensures ∙ octet_back work path i o c.loop-i.state high low next agree c.steps-back-high.ensures c.steps-back-low.ensures)))
+          (λ ne. get_or-set_other text o j found 0 ne ∙ c.loop-i.invariant.2 j (omega arith) l)
+          (cases_eq j o),
     )

@@ -1,51 +1,48 @@
-use mathlib.Core.Path.{_≡_, sym, ap, _∙_, subst}
-use mathlib.Core.Bool.{true, false}
-use lib.Dec.{T}
+use Rattle.std.proofs.Common.{◌≡◌, true, false, T, sym, ap, ◌∙◌, subst, w8}
 use lib.Ieee.{Float, binary32, fits, eq}
-use mir.Syntax.{w8}
-use mir.ValLaws.{toZ-ofZ}
-use Rattle·card·specs.declared.Levels.{Levels}
-use Rattle·card·specs.declared.Reading.the-variants.{Levels as Measured}
-use Rattle·card·specs.Floats.{zero-float, is-balance, share, strength}
-use Rattle·card·specs.Readings.{greatest, first-one, first-zero, second-one, second-zero, Promised}
-use Rattle·card·proofs.Pairs.{pair-of, pair-silent, pair-loud, promised, first-taken, second-taken}
-use Rattle·card·proofs.Levels.pair.Needs as need
+use mir.ValLaws.{to_z-of_z}
+use Rattle.card.specs.declared.Levels.{Levels}
+use Rattle.card.specs.declared.Reading.TheVariants.{Levels as Measured}
+use Rattle.card.specs.Floats.{zero_float, is_balance, share, strength}
+use Rattle.card.specs.Readings.{greatest, first_one, first_zero, second_one, second_zero, Promised}
+use Rattle.card.proofs.Pairs.{pair_of, pair_silent, pair_loud, promised, first_taken, second_taken}
+use Rattle.card.proofs.Levels.pair.Goals as goal
 
 -- the greatest level is a float of 32 bits
 held : (g : Float) (l : Levels) → fits binary32 g ≡ true → g ≡ greatest l → T (fits binary32 (greatest l))
 held g l o e = subst (λ (x : Float). T (fits binary32 x)) e (subst T (sym o) tt)
 
-pub returns-then-greatest : need.returns-then-greatest
+pub returns-then-greatest : goal.returns-then-greatest
 returns-then-greatest c =
-    let l = c .args .self .now in
-    let g = c .greatest-greatest in
-    let e = pair-silent l (ap (λ (x : Float). eq x zero-float) (sym (g .ensures)) ∙ c .if-greatest .taken) in
-    record { is = sym e; promised = subst (Promised (Measured l)) e (promised l (c .pre) (held (g .result) l (g .ok) (g .ensures))) }
+    let l = c.args.self.now in
+    let g = c.greatest-greatest in
+    let e = pair_silent l (ap (λ (x : Float). eq x zero_float) (sym g.ensures) ∙ c.if-greatest.true) in
+    record { is = sym e; promised = subst (Promised (Measured l)) e (promised l c.requires (held g.result l g.type-inv g.ensures)) }
 
-loud : (g : Float) (l : Levels) → eq g zero-float ≡ false → g ≡ greatest l → eq (greatest l) zero-float ≡ false
-loud g l n e = ap (λ (x : Float). eq x zero-float) (sym e) ∙ n
+loud : (g : Float) (l : Levels) → eq g zero_float ≡ false → g ≡ greatest l → eq (greatest l) zero_float ≡ false
+loud g l n e = ap (λ (x : Float). eq x zero_float) (sym e) ∙ n
 
-pub strength-requires : need.strength-requires
-strength-requires c κs =
-    let l = c .args .self .now in
-    let g = c .greatest-greatest in
-    let e : c .share-first .result ≡ share (first-one l) (first-zero l) (greatest l) = cc in
-    subst (λ (x : Float). T (is-balance x)) (sym e) (first-taken l (c .pre) (loud (g .result) l (c .if-greatest .left) (g .ensures)) (held (g .result) l (g .ok) (g .ensures)))
+pub strength-requires : goal.strength-requires
+strength-requires c =
+    let l = c.args.self.now in
+    let g = c.greatest-greatest in
+    let e : c.share-first.result ≡ share (first_one l) (first_zero l) (greatest l) = cc in
+    subst (λ (x : Float). T (is_balance x)) (sym e) (first_taken l c.requires (loud g.result l c.if-greatest.false g.ensures) (held g.result l g.type-inv g.ensures))
 
-pub strength-requires-2 : need.strength-requires-2
-strength-requires-2 c κs =
-    let l = c .args .self .now in
-    let g = c .greatest-greatest in
-    let e : c .share-second .result ≡ share (second-one l) (second-zero l) (greatest l) = cc in
-    subst (λ (x : Float). T (is-balance x)) (sym e) (second-taken l (c .pre) (loud (g .result) l (c .if-greatest .left) (g .ensures)) (held (g .result) l (g .ok) (g .ensures)))
+pub strength-requires-2 : goal.strength-requires-2
+strength-requires-2 c =
+    let l = c.args.self.now in
+    let g = c.greatest-greatest in
+    let e : c.share-second.result ≡ share (second_one l) (second_zero l) (greatest l) = cc in
+    subst (λ (x : Float). T (is_balance x)) (sym e) (second_taken l c.requires (loud g.result l c.if-greatest.false g.ensures) (held g.result l g.type-inv g.ensures))
 
-pub returns : need.returns
+pub returns : goal.returns
 returns c =
-    let l = c .args .self .now in
-    let g = c .greatest-greatest in
-    let a : c .strength .result ≡ strength (share (first-one l) (first-zero l) (greatest l)) = cc in
-    let b : c .strength-2 .result ≡ strength (share (second-one l) (second-zero l) (greatest l)) = cc in
+    let l = c.args.self.now in
+    let g = c.greatest-greatest in
+    let a : c.strength.result ≡ strength (share (first_one l) (first_zero l) (greatest l)) = cc in
+    let b : c.strength-2.result ≡ strength (share (second_one l) (second_zero l) (greatest l)) = cc in
     let e =
-    pair-of (toZ-ofZ w8 (c .strength .result) (record { sfits = c .strength .ok }) ∙ a) (toZ-ofZ w8 (c .strength-2 .result) (record { sfits = c .strength-2 .ok }) ∙ b)
-    ∙ sym (pair-loud l (loud (g .result) l (c .if-greatest .left) (g .ensures))) in
-    record { is = e; promised = subst (Promised (Measured l)) (sym e) (promised l (c .pre) (held (g .result) l (g .ok) (g .ensures))) }
+    pair_of (to_z-of_z w8 c.strength.result (record { sfits = c.strength.type-inv }) ∙ a) (to_z-of_z w8 c.strength-2.result (record { sfits = c.strength-2.type-inv }) ∙ b)
+    ∙ sym (pair_loud l (loud g.result l c.if-greatest.false g.ensures)) in
+    record { is = e; promised = subst (Promised (Measured l)) (sym e) (promised l c.requires (held g.result l g.type-inv g.ensures)) }

@@ -1,26 +1,24 @@
-use mathlib.Core.Path.{_≡_, sym, ap, subst, _∙_}
-use lib.Dec.{ltb}
-use native.Mathlib.Omega.{arith}
-use Rattle·character·specs.Utf8Ranges.{TallyRoom, one-more}
-use Rattle·character·proofs.Runs.{all-items, only, room, tally-push}
-use Rattle·character·proofs.Tally.of.Needs as need
+use Rattle.std.proofs.Common.{◌≡◌, ltb, sym, ap, ◌∙◌, subst, arith}
+use Rattle.character.specs.Utf8Ranges.{TallyRoom, one_more}
+use Rattle.character.proofs.Runs.{all_items, only, room, tally_push}
+use Rattle.character.proofs.Tally.of.Goals as goal
 
-pub with-tally-requires : need.with-tally-requires
-with-tally-requires c κs =
-    let s = c .into-iter-placed-iterator .result in
-    let b = c .into-iter-placed-iterator .ensures .becomes in
-    let e : s .text .now ≡ c .args .text .now = ap (λ u. u .text .now) b ∙ c .new-placed-items .ensures .text in
-    subst TallyRoom (sym (c .loop-placed .inv .2)) (room (c .args .text .now) (c .loop-placed .yielded) s (c .loop-placed .placed-iterator) (c .next .last .self) (c .in-Some .placed) e (c .loop-placed .yielded-by) (c .in-Some .ensures tt .steps) (omega arith))
+pub with-tally-requires : goal.with-tally-requires
+with-tally-requires c =
+    let s = c.into-iter-placed-iterator.result in
+    let b = c.into-iter-placed-iterator.ensures.into-iter-gives in
+    let e : s.text.now ≡ c.args.text.now = ap (λ u. u.text.now) b ∙ c.new-placed-items.ensures.text in
+    subst TallyRoom (sym c.loop-placed.invariant.2) (room c.args.text.now c.loop-placed.yielded s c.loop-placed.placed-iterator c.next.new.self c.in-Some.placed e c.loop-placed.yielded-by c.in-Some.ensures.steps (omega arith))
 
-pub loop-placed-again : need.loop-placed-again
-loop-placed-again c =
-    (tt, tt, c .with-tally .ensures ∙ ap (λ t. one-more t (c .in-Some .placed .item)) (c .loop-placed .inv .2) ∙ sym (tally-push (c .loop-placed .yielded) (c .in-Some .placed)))
+pub loop-placed-preserved : goal.loop-placed-preserved
+loop-placed-preserved c =
+    (tt, tt, c.with-tally.ensures ∙ ap (λ t. one_more t c.in-Some.placed.item) c.loop-placed.invariant.2 ∙ sym (tally_push c.loop-placed.yielded c.in-Some.placed))
 
-pub returns : need.returns
+pub returns : goal.returns
 returns c =
-    let s = c .into-iter-placed-iterator .result in
-    let b = c .into-iter-placed-iterator .ensures .becomes in
-    let e : s .text .now ≡ c .args .text .now = ap (λ u. u .text .now) b ∙ c .new-placed-items .ensures .text in
-    let z : s .place ≡ 0 = ap (λ u. u .place) b ∙ c .new-placed-items .ensures .place in
-    let r = all-items (c .args .text .now) (c .loop-placed .yielded) s e z (c .next .last .self, (c .loop-placed .placed-iterator, c .loop-placed .yielded-by, c .in-None .ensures tt .steps)) in
-    record { items = (c .loop-placed .yielded, record { are = r; only = λ ys q. only (c .args .text .now) (c .loop-placed .yielded) ys r q }, c .loop-placed .inv .2); enquiry = r .enquiries ∙ ap (λ t. ltb 0 (t .enquiries)) (sym (c .loop-placed .inv .2)) }
+    let s = c.into-iter-placed-iterator.result in
+    let b = c.into-iter-placed-iterator.ensures.into-iter-gives in
+    let e : s.text.now ≡ c.args.text.now = ap (λ u. u.text.now) b ∙ c.new-placed-items.ensures.text in
+    let z : s.place ≡ 0 = ap (λ u. u.place) b ∙ c.new-placed-items.ensures.place in
+    let r = all_items c.args.text.now c.loop-placed.yielded s e z (c.next.new.self, (c.loop-placed.placed-iterator, c.loop-placed.yielded-by, c.in-None.ensures.steps)) in
+    record { items = (c.loop-placed.yielded, record { are = r; only = λ ys q. only c.args.text.now c.loop-placed.yielded ys r q }, c.loop-placed.invariant.2); enquiry = r.enquiries ∙ ap (λ t. ltb 0 t.enquiries) (sym c.loop-placed.invariant.2) }

@@ -1,12 +1,12 @@
-use native.Mathlib.Omega.{arith}
-use Rattle·character·proofs.Encodings.{no-char, of-one}
-use Rattle·character·proofs.decoder.character.Needs as need
+use Rattle.std.proofs.Common.{arith}
+use Rattle.character.proofs.Encodings.{no_char, of_one}
+use Rattle.character.proofs.decoder.character.Goals as goal
 
-pub returns-in-0-to-127 : need.returns-in-0-to-127
-returns-in-0-to-127 c = of-one (c .args .octets .now) (c .pre) (omega arith)
+pub returns-in-0-to-127 : goal.returns-in-0-to-127
+returns-in-0-to-127 c = of_one c.args.octets.now c.requires (omega arith)
 
-pub returns-in-rest : need.returns-in-rest
-returns-in-rest c = no-char (c .args .octets .now) (λ w. omega (arith, w .lead (omega arith)))
+pub returns-in-default : goal.returns-in-default
+returns-in-default c = no_char c.args.octets.now (λ w. omega (arith, w.lead (omega arith)))
 
-pub returns-in-rest·2 : need.returns-in-rest·2
-returns-in-rest·2 c = no-char (c .args .octets .now) (λ w. omega (arith, w .lead (omega arith)))
+pub returns-in-default·2 : goal.returns-in-default·2
+returns-in-default·2 c = no_char c.args.octets.now (λ w. omega (arith, w.lead (omega arith)))

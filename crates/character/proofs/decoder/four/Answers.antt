@@ -1,34 +1,33 @@
-use mathlib.Core.Path.{sym, subst}
-use native.Mathlib.Omega.{arith}
-use Rattle·std.proofs.shelf.Ways.{not-from-decides}
-use Rattle·character·proofs.Encodings.{no-char, of-four, Begins}
-use Rattle·character·proofs.decoder.four.Needs as need
+use Rattle.std.proofs.Common.{sym, subst, arith}
+use Rattle.std.proofs.lemmas.Bool.Decides.{not_from_Decides}
+use Rattle.character.proofs.Encodings.{no_char, of_four, Begins}
+use Rattle.character.proofs.decoder.four.Goals as goal
 
-pub returns-then-octets-lt4 : need.returns-then-octets-lt4
-returns-then-octets-lt4 c = no-char (c .args .octets .now) (λ w. omega (arith, w .fourth (omega arith)))
+pub returns-then-octets-lt4 : goal.returns-then-octets-lt4
+returns-then-octets-lt4 c = no_char c.args.octets.now (λ w. omega (arith, w.fourth (omega arith)))
 
-pub returns-then-not-may-follow : need.returns-then-not-may-follow
+pub returns-then-not-may-follow : goal.returns-then-not-may-follow
 returns-then-not-may-follow c =
-    no-char (c .args .octets .now) (λ w. not-from-decides _ (c .may-follow .ensures) (c .if-not-may-follow .taken) (w .lead (omega arith) .3))
+    no_char c.args.octets.now (λ w. not_from_Decides _ c.may-follow.ensures c.if-not-may-follow.true (w.lead (omega arith)).3)
 
-pub returns-then-not-is-tail : need.returns-then-not-is-tail
+pub returns-then-not-is-tail : goal.returns-then-not-is-tail
 returns-then-not-is-tail c =
-    no-char (c .args .octets .now) (λ w. not-from-decides _ (c .is-tail .ensures) (c .if-not-is-tail .taken) (w .third (omega arith) .1))
+    no_char c.args.octets.now (λ w. not_from_Decides _ c.is-tail.ensures c.if-not-is-tail.true (w.third (omega arith)).1)
 
-pub returns-then-not-is-tail-2 : need.returns-then-not-is-tail-2
+pub returns-then-not-is-tail-2 : goal.returns-then-not-is-tail-2
 returns-then-not-is-tail-2 c =
-    no-char (c .args .octets .now) (λ w. not-from-decides _ (c .is-tail-2 .ensures) (c .if-not-is-tail-2 .taken) (w .fourth (omega arith) .1))
+    no_char c.args.octets.now (λ w. not_from_Decides _ c.is-tail-2.ensures c.if-not-is-tail-2.true (w.fourth (omega arith)).1)
 
-pub scalar-value-requires : need.scalar-value-requires
-scalar-value-requires c κs =
-    let s = c .may-follow .ensures .0 (c .if-not-may-follow .left) in
-    let t = c .is-tail .ensures .0 (c .if-not-is-tail .left) in
-    let u = c .is-tail-2 .ensures .0 (c .if-not-is-tail-2 .left) in
-    of-four (c .args .octets .now) (omega arith) (omega arith) (omega arith) s t u .0
+pub scalar-value-requires : goal.scalar-value-requires
+scalar-value-requires c =
+    let s = c.may-follow.ensures.0 c.if-not-may-follow.false in
+    let t = c.is-tail.ensures.0 c.if-not-is-tail.false in
+    let u = c.is-tail-2.ensures.0 c.if-not-is-tail-2.false in
+    (of_four c.args.octets.now (omega arith) (omega arith) (omega arith) s t u).0
 
-pub returns : need.returns
+pub returns : goal.returns
 returns c =
-    let s = c .may-follow .ensures .0 (c .if-not-may-follow .left) in
-    let t = c .is-tail .ensures .0 (c .if-not-is-tail .left) in
-    let u = c .is-tail-2 .ensures .0 (c .if-not-is-tail-2 .left) in
-    subst (Begins (c .args .octets .now)) (sym (c .scalar-value .ensures)) (of-four (c .args .octets .now) (omega arith) (omega arith) (omega arith) s t u)
+    let s = c.may-follow.ensures.0 c.if-not-may-follow.false in
+    let t = c.is-tail.ensures.0 c.if-not-is-tail.false in
+    let u = c.is-tail-2.ensures.0 c.if-not-is-tail-2.false in
+    subst (Begins c.args.octets.now) (sym c.scalar-value.ensures) (of_four c.args.octets.now (omega arith) (omega arith) (omega arith) s t u)

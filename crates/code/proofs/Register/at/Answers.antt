@@ -1,6 +1,6 @@
-use mathlib.Core.List.{[], _∷_}
-use Rattle·code·proofs.Register.at.Needs as need
+use Rattle.std.proofs.Common.{[], ◌∷◌}
+use Rattle.code.proofs.Register.at.Goals as goal
 
-pub returns : need.returns
+pub returns : goal.returns
 returns c =
-    λ i. c .bit-before .ensures i ∷ c .bit-before-2 .ensures i ∷ c .bit-before-3 .ensures i ∷ c .bit-before-4 .ensures i ∷ c .bit-before-5 .ensures i ∷ []
+    λ i. c.bit-before.ensures i ∷ c.bit-before-2.ensures i ∷ c.bit-before-3.ensures i ∷ c.bit-before-4.ensures i ∷ c.bit-before-5.ensures i ∷ []

@@ -1,5 +1,5 @@
-use Rattle·exchange·proofs.Reading.{enough}
-use Rattle·exchange·proofs.outgoing.read_limit.Needs as need
+use Rattle.exchange.proofs.Reading.{enough}
+use Rattle.exchange.proofs.outgoing.read_limit.Goals as goal
 
-pub returns : need.returns
+pub returns : goal.returns
 returns c = enough

@@ -1,19 +1,17 @@
-use mathlib.Core.Path.{_≡_, ap, subst, _∙_}
-use lib.ListN.{length}
-use Rattle·std.specs.Of.Vec.{vec-items}
-use Rattle·std.proofs.shelf.Results.{err-from-errBy}
-use Rattle·exchange·specs.Outgoing.{Makes, sound-of, usual-burst, usual-sound}
-use Rattle·exchange·proofs.Sent.{same-failure, sound-rule}
-use Rattle·exchange·proofs.outgoing.sound.Needs as need
+use Rattle.std.proofs.Common.{◌≡◌, length, vec_items, ap, ◌∙◌, subst}
+use Rattle.std.proofs.lemmas.Result.{err_from_is_err_and}
+use Rattle.exchange.specs.Outgoing.{Makes, sound_of, usual_burst, usual_sound}
+use Rattle.exchange.proofs.Sent.{same_failure, sound_rule}
+use Rattle.exchange.proofs.outgoing.sound.Goals as goal
 
-pub returns-in-Break-elements : need.returns-in-Break-elements
-returns-in-Break-elements c =
-    let text = c .args .text .now in
-    let p = err-from-errBy (c .from-residual .result) (c .from-residual .ensures .1) in
-    rw (p .1, p .2) (same-failure (length text) (usual-burst text) (usual-sound text) (c .in-Break-elements .field-0 .0) (c .in-Break-elements .ensures tt))
+pub returns-in-err-elements : goal.returns-in-err-elements
+returns-in-err-elements c =
+    let text = c.args.text.now in
+    let p = err_from_is_err_and c.from-residual.result c.from-residual.ensures.1 in
+    rw (p.1, p.2) (same_failure (length text) (usual_burst text) (usual_sound text) c.in-err-elements.field-0.0 c.in-err-elements.ensures)
 
-pub returns : need.returns
+pub returns : goal.returns
 returns c =
-    let text = c .args .text .now in
-    let rule = ap sound-of (c .deref .ensures .value) ∙ sound-rule text (vec-items (c .in-Continue-elements .elements)) (c .in-Continue-elements .ensures tt) in
-    subst (λ r. Makes r (c .sound-of .result)) rule (c .sound-of .ensures)
+    let text = c.args.text.now in
+    let rule = ap sound_of c.deref.ensures.value ∙ sound_rule text (vec_items c.in-ok-elements.elements) c.in-ok-elements.ensures in
+    subst (λ r. Makes r c.sound_of.result) rule c.sound_of.ensures

@@ -1,10 +1,9 @@
-use borrow.Author.Needs.{needs}
-use native.Mathlib.Omega.{arith}
-use Rattle·std.proofs.shelf.Tests.{ltb-true}
-use Rattle·layout·proofs.InterleaverLaws.{preamble-index}
-use Rattle·layout·proofs.interleaver.preamble_index.Needs as need
+use Rattle.std.proofs.Common.{arith, rules}
+use Rattle.std.proofs.lemmas.Bool.{ltb-true}
+use Rattle.layout.specs.InterleaverLaws.{preamble_index}
+use Rattle.layout.proofs.interleaver.preamble_index.Goals as goal
 
-pub returns : need.returns
+pub returns : goal.returns
 returns c =
-    let rule = preamble-index (c .args .place) (c .pre) in
-    record { index = search needs; below = search needs }
+    let rule = preamble_index c.args.place c.requires in
+    record { index = search rules; below = search rules }

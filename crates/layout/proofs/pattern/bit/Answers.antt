@@ -1,7 +1,7 @@
-use borrow.Author.Needs.{needs}
-use Rattle·layout·specs.Pattern.{pattern-bit}
-use Rattle·layout·proofs.pattern.bit.Needs as need
+use Rattle.std.proofs.Common.{rules}
+use Rattle.layout.specs.Pattern.{pattern_bit}
+use Rattle.layout.proofs.pattern.bit.Goals as goal
 
-pub returns : need.returns
-unfolding pattern-bit
-returns c = search needs
+pub returns : goal.returns
+unfolding pattern_bit
+returns c = search rules

@@ -1,13 +1,11 @@
-use borrow.Author.Needs.{needs}
-use Prim.Native.Nat.{_%_}
-use native.Mathlib.Omega.{arith}
-use Rattle·layout·specs.Inserter.{is-mute}
-use Rattle·stage.proofs.MarkersAt.{count-most}
-use Rattle·layout·proofs.InserterLaws.{carriers-rule}
-use Rattle·layout·proofs.period.carried_before.Needs as need
+use Rattle.std.proofs.Common.{◌%◌, arith, rules}
+use Rattle.layout.specs.Inserter.{is_mute}
+use Rattle.stage.proofs.MarkersAt.{count_most}
+use Rattle.layout.specs.InserterLaws.{carriers_rule}
+use Rattle.layout.proofs.period.carried_before.Goals as goal
 
-pub sub-spot : need.sub-spot
-sub-spot c = let few = count-most is-mute (c .args .place % 384) in omega (arith, c .mutes-before .ensures)
+pub overflow-sub-spot : goal.overflow-sub-spot
+overflow-sub-spot c = let few = count_most is_mute (c.args.place % 384) in omega (arith, c.mutes_before.ensures)
 
-pub returns : need.returns
-returns c = let rule = carriers-rule (c .args .place) in omega (arith, c .mutes-before .ensures, c .min .ensures)
+pub returns : goal.returns
+returns c = let rule = carriers_rule c.args.place in omega (arith, c.mutes_before.ensures, c.min.ensures)

@@ -1,8 +1,7 @@
-use borrow.Author.Needs.{needs}
-use native.Mathlib.Omega.{arith}
-use Rattle·layout·proofs.InserterLaws.{mutes-in-period}
-use Rattle·layout·proofs.period.mutes_before.Needs as need
+use Rattle.std.proofs.Common.{arith, rules}
+use Rattle.layout.specs.InserterLaws.{mutes_in_period}
+use Rattle.layout.proofs.period.mutes_before.Goals as goal
 
-pub returns : need.returns
-returns c = let rule = mutes-in-period (c .args .spot) (search needs) in
-    omega (arith, c .terms-up-to .ensures .value, c .terms-up-to-2 .ensures .value, c .terms-up-to-3 .ensures .value, c .terms-up-to-4 .ensures .value)
+pub returns : goal.returns
+returns c = let rule = mutes_in_period c.args.spot (search rules) in
+    omega (arith, c.terms-up-to.ensures.value, c.terms-up-to-2.ensures.value, c.terms-up-to-3.ensures.value, c.terms-up-to-4.ensures.value)

@@ -1,13 +1,13 @@
-use borrow.Author.Needs.{needs}
-use Rattle·layout·proofs.Terms.{terms-none, terms-some}
-use Rattle·layout·proofs.period.terms_up_to.Needs as need
+use Rattle.std.proofs.Common.{rules}
+use Rattle.layout.specs.Terms.{terms_none, terms_some}
+use Rattle.layout.proofs.period.terms_up_to.Goals as goal
 
-pub returns-then-x-first : need.returns-then-x-first
+pub returns-then-x-first : goal.returns-then-x-first
 returns-then-x-first c =
-    let none = terms-none (c .args .x) (c .args .first) (c .args .step) (c .args .terms) (search needs) in
-    record { value = search needs; most = search needs }
+    let none = terms_none c.args.x c.args.first c.args.step c.args.terms (search rules) in
+    record { value = search rules; most = search rules }
 
-pub returns : need.returns
+pub returns : goal.returns
 returns c =
-    let some = terms-some (c .args .x) (c .args .first) (c .args .step) (c .args .terms) (search needs) (search needs) in
-    record { value = search needs; most = search needs }
+    let some = terms_some c.args.x c.args.first c.args.step c.args.terms (search rules) (search rules) in
+    record { value = search rules; most = search rules }

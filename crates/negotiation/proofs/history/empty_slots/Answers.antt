@@ -1,32 +1,28 @@
-use mathlib.Core.Path.{_≡_, sym, ap, _∙_}
-use mathlib.Core.Bool.{not}
-use native.Mathlib.Omega.{arith}
-use lib.ListN.{drop}
-use Rattle·std.specs.Options.{isSome}
-use Rattle·std.proofs.shelf.Sums.{leading-drop-yes, leading-drop-no, leading-drop-all}
-use Rattle·negotiation·specs.Moves.{empty-slots}
-use Rattle·negotiation·proofs.history.empty_slots.Needs as need
+use Rattle.std.proofs.Common.{◌≡◌, not, drop, is_some, sym, ap, ◌∙◌, arith}
+use Rattle.std.proofs.lemmas.List.Sums.{prefix_len-drop_yes, prefix_len-drop_no, prefix_len-drop_all}
+use Rattle.negotiation.specs.Moves.{empty_slots}
+use Rattle.negotiation.proofs.history.empty_slots.Goals as goal
 
-pub returns-then-is-some : need.returns-then-is-some
+pub returns-then-is-some : goal.returns-then-is-some
 returns-then-is-some c =
-    let slots = c .args .slots .now in
-    let i = c .loop-slot .slot-index in
-    let x = c .slot-item .result in
-    let none : empty-slots (drop i slots) ≡ 0 =
-    leading-drop-no (λ slot. not (isSome slot)) slots i x (c .loop-slot-test .taken) (ap (λ slot. not (isSome slot)) (sym (c .slot-item .is)) ∙ ap not (sym (c .if-is-some .ensures tt))) in
-    record { value = omega (arith, none, c .loop-slot .inv); within = omega (arith, c .loop-slot .inv) }
+    let slots = c.args.slots.now in
+    let i = c.loop-slot.slot-index in
+    let x = c.slot-item.result in
+    let none : empty_slots (drop i slots) ≡ 0 =
+    prefix_len-drop_no (λ slot. not (is_some slot)) slots i x c.loop-slot-test.true (ap (λ slot. not (is_some slot)) (sym c.slot-item.is) ∙ ap not (sym c.if-is-some.ensures)) in
+    record { value = omega (arith, none, c.loop-slot.invariant); within = omega (arith, c.loop-slot.invariant) }
 
-pub loop-slot-again : need.loop-slot-again
-loop-slot-again c =
-    let slots = c .args .slots .now in
-    let i = c .loop-slot .slot-index in
-    let x = c .slot-item .result in
-    let more = leading-drop-yes (λ slot. not (isSome slot)) slots i x (c .loop-slot-test .taken) (ap (λ slot. not (isSome slot)) (sym (c .slot-item .is)) ∙ ap not (sym (c .if-is-some .ensures tt))) in
-    (omega (arith, c .loop-slot .inv .0), omega (arith, more, c .loop-slot .inv .1))
+pub loop-slot-preserved : goal.loop-slot-preserved
+loop-slot-preserved c =
+    let slots = c.args.slots.now in
+    let i = c.loop-slot.slot-index in
+    let x = c.slot-item.result in
+    let more = prefix_len-drop_yes (λ slot. not (is_some slot)) slots i x c.loop-slot-test.true (ap (λ slot. not (is_some slot)) (sym c.slot-item.is) ∙ ap not (sym c.if-is-some.ensures)) in
+    (omega (arith, c.loop-slot.invariant.0), omega (arith, more, c.loop-slot.invariant.1))
 
-pub returns : need.returns
+pub returns : goal.returns
 returns c =
-    let slots = c .args .slots .now in
-    let i = c .loop-slot .slot-index in
-    let none : empty-slots (drop i slots) ≡ 0 = leading-drop-all (λ slot. not (isSome slot)) slots i (c .loop-slot-test .left) in
-    record { value = omega (arith, none, c .loop-slot .inv); within = omega (arith, c .loop-slot .inv) }
+    let slots = c.args.slots.now in
+    let i = c.loop-slot.slot-index in
+    let none : empty_slots (drop i slots) ≡ 0 = prefix_len-drop_all (λ slot. not (is_some slot)) slots i c.loop-slot-test.false in
+    record { value = omega (arith, none, c.loop-slot.invariant); within = omega (arith, c.loop-slot.invariant) }

@@ -1,38 +1,38 @@
-use mathlib.Core.Path.{_∙_}
-use Rattle·stage.proofs.Markers.{marker-above, marker-below, marker-not-refused}
-use Rattle·pile·proofs.PileMarkedStage.marker.Needs as need
+use Rattle.std.proofs.Common.{◌∙◌}
+use Rattle.stage.proofs.Markers.{marker_above, marker_below, marker_not_refused}
+use Rattle.pile.proofs.PileMarkedStage.marker.Goals as goal
 
-pub returns-then-index-above : need.returns-then-index-above
+pub returns-then-index-above : goal.returns-then-index-above
 returns-then-index-above g c =
-    let lower = c .args .self .now .lower in
-    let upper = c .args .self .now .upper in
+    let lower = c.args.self.now.lower in
+    let upper = c.args.self.now.upper in
     record {
-      answer = c .marker .ensures .answer
-          ∙ marker-above (g .L·Stage .meaning lower) (g .U·Stage .meaning upper) (g .L·MarkedStage .markers lower) (g .U·MarkedStage .markers upper)
-          (c .args .n) (c .in-Continue-middle .middle) (c .in-Continue-middle .ensures tt) (c .in-Continue-above .above) (c .args .index)
-          (c .in-Continue-above .ensures tt .answer) (c .if-index-above .taken);
-      marked = c .in-Continue-marker-count .ensures tt .marked;
+      answer = c.marker.ensures.answer
+          ∙ marker_above (g.L.Stage.meaning lower) (g.U.Stage.meaning upper) (g.L.MarkedStage.markers lower) (g.U.MarkedStage.markers upper)
+          c.args.n c.in-ok-middle.middle c.in-ok-middle.ensures c.in-ok-above.above c.args.index
+          c.in-ok-above.ensures.answer c.if-index-above.true;
+      marked = c.in-ok-marker-count.ensures.marked;
     }
 
-pub returns-in-Break-marker : need.returns-in-Break-marker
-returns-in-Break-marker g c =
-    let lower = c .args .self .now .lower in
-    let upper = c .args .self .now .upper in
-    absurd (marker-not-refused (g .L·Stage .meaning lower) (g .U·Stage .meaning upper) (g .L·MarkedStage .markers lower) (g .U·MarkedStage .markers upper)
-    (c .args .n) (c .in-Continue-middle .middle) (c .in-Continue-middle .ensures tt) (c .in-Continue-above .above)
-    (c .in-Continue-marker-count .field-0) (c .args .index) (c .in-Break-marker .field-0 .0)
-    (c .in-Continue-above .ensures tt .answer) (c .in-Continue-marker-count .ensures tt .answer)
-    (c .if-index-above .left) (c .if-branch .left) (c .in-Break-marker .ensures tt .answer))
+pub returns-in-err-marker : goal.returns-in-err-marker
+returns-in-err-marker g c =
+    let lower = c.args.self.now.lower in
+    let upper = c.args.self.now.upper in
+    absurd (marker_not_refused (g.L.Stage.meaning lower) (g.U.Stage.meaning upper) (g.L.MarkedStage.markers lower) (g.U.MarkedStage.markers upper)
+    c.args.n c.in-ok-middle.middle c.in-ok-middle.ensures c.in-ok-above.above
+    c.in-ok-marker-count.field-0 c.args.index c.in-err-marker.field-0.0
+    c.in-ok-above.ensures.answer c.in-ok-marker-count.ensures.answer
+    c.if-index-above.false c.if-branch.false c.in-err-marker.ensures.answer)
 
-pub returns : need.returns
+pub returns : goal.returns
 returns g c =
-    let lower = c .args .self .now .lower in
-    let upper = c .args .self .now .upper in
+    let lower = c.args.self.now.lower in
+    let upper = c.args.self.now.upper in
     record {
-      answer = c .raised .ensures
-          ∙ marker-below (g .L·Stage .meaning lower) (g .U·Stage .meaning upper) (g .L·MarkedStage .markers lower) (g .U·MarkedStage .markers upper)
-          (c .args .n) (c .in-Continue-middle .middle) (c .in-Continue-middle .ensures tt) (c .in-Continue-above .above) (c .args .index)
-          (c .in-Continue-marker .field-0) (c .in-Continue-above .ensures tt .answer) (c .in-Continue-marker .ensures tt .answer)
-          (c .in-Continue-marker .ensures tt .marked) (c .if-index-above .left);
-      marked = c .in-Continue-marker-count .ensures tt .marked;
+      answer = c.raised.ensures
+          ∙ marker_below (g.L.Stage.meaning lower) (g.U.Stage.meaning upper) (g.L.MarkedStage.markers lower) (g.U.MarkedStage.markers upper)
+          c.args.n c.in-ok-middle.middle c.in-ok-middle.ensures c.in-ok-above.above c.args.index
+          c.in-ok-marker.field-0 c.in-ok-above.ensures.answer c.in-ok-marker.ensures.answer
+          c.in-ok-marker.ensures.marked c.if-index-above.false;
+      marked = c.in-ok-marker-count.ensures.marked;
     }

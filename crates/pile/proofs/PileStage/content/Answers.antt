@@ -1,22 +1,21 @@
-use mathlib.Core.Path.{_∙_, sym, ap}
-use Rattle·std.specs.declared.result.Result.the-variants.{Ok}
-use Rattle·stage.proofs.AnswersKnown.{content-carried, inverted-there}
-use Rattle·pile·proofs.PileStage.content.Needs as need
+use Rattle.std.proofs.Common.{Ok, sym, ap, ◌∙◌}
+use Rattle.stage.proofs.AnswersKnown.{content_carried, inverted_there}
+use Rattle.pile.proofs.PileStage.content.Goals as goal
 
-pub returns-in-Break-content : need.returns-in-Break-content
-returns-in-Break-content g c =
-    let lower = c .args .self .now .lower in
-    let upper = c .args .self .now .upper in
-    absurd (inverted-there (g .L·Stage .meaning lower) (g .U·Stage .meaning upper) (g .U·Stage·met .homes upper)
-    (c .args .n) (c .args .place) (c .in-Continue-middle .middle) (c .in-Inverted .j) (c .in-Break-content .field-0 .0)
-    (c .in-Continue-middle .ensures tt) (ap Ok (sym (c .in-Inverted .is)) ∙ c .in-Continue-own .ensures tt)
-    (c .in-Break-content .ensures tt))
+pub returns-in-err-content : goal.returns-in-err-content
+returns-in-err-content g c =
+    let lower = c.args.self.now.lower in
+    let upper = c.args.self.now.upper in
+    absurd (inverted_there (g.L.Stage.meaning lower) (g.U.Stage.meaning upper) (g.met.U.Stage.homes upper)
+    c.args.n c.args.place c.in-ok-middle.middle c.in-Inverted.j c.in-err-content.field-0.0
+    c.in-ok-middle.ensures (ap Ok (sym c.in-Inverted.is) ∙ c.in-ok-own.ensures)
+    c.in-err-content.ensures)
 
-pub returns-in-Carried : need.returns-in-Carried
+pub returns-in-Carried : goal.returns-in-Carried
 returns-in-Carried g c =
-    let lower = c .args .self .now .lower in
-    let upper = c .args .self .now .upper in
-    c .content-in-Carried .ensures
-    ∙ content-carried (g .L·Stage .meaning lower) (g .U·Stage .meaning upper) (g .U·Stage·met .homes upper)
-    (c .args .n) (c .args .place) (c .in-Continue-middle .middle) (c .in-Carried .j)
-    (c .in-Continue-middle .ensures tt) (ap Ok (sym (c .in-Carried .is)) ∙ c .in-Continue-own .ensures tt)
+    let lower = c.args.self.now.lower in
+    let upper = c.args.self.now.upper in
+    c.content-in-Carried.ensures
+    ∙ content_carried (g.L.Stage.meaning lower) (g.U.Stage.meaning upper) (g.met.U.Stage.homes upper)
+    c.args.n c.args.place c.in-ok-middle.middle c.in-Carried.j
+    c.in-ok-middle.ensures (ap Ok (sym c.in-Carried.is) ∙ c.in-ok-own.ensures)

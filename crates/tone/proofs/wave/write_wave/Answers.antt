@@ -1,72 +1,61 @@
-use mathlib.Core.List.{List, [], _++_, append-nil}
-use mathlib.Core.Path.{_≡_, refl, sym, ap, _∙_}
-use Prim.Native.Nat.{ℕ, _+_, _-_, _*_, _^_}
-use native.Mathlib.Omega.{arith}
-use lib.Dec.{leb, ltb}
-use lib.IntN.{pos}
-use lib.ListN.{length, getD}
-use mir.Syntax.{w16}
-use mir.Val.{toZ, ofZ}
-use borrow.Author.Needs.{needs}
-use borrow.Rule.Slice.PartMut.{putMid}
-use Rattle·std.specs.Iters.{counting}
-use Rattle·std.specs.Joined.{joined}
-use Rattle·std.specs.declared.result.Result.the-variants.{Ok}
-use Rattle·std.proofs.shelf.Lists.{length-append}
-use Rattle·std.proofs.shelf.Tests.{le-ltb}
-use Rattle·refusal.specs.declared.Refusal.the-variants.{MemoryTooShort}
-use Rattle·refusal.proofs.Checks.{past, passed}
-use Rattle·refusal.specs.Answer.{laid}
-use Rattle·refusal.proofs.Front.{joined-counting-more, laid-more, laid-over, length-joined}
-use Rattle·stage.proofs.AnswersKnown.{ok-is}
-use Rattle·tone·specs.Wave.{header-of, past-header, sample-octets, stored-size, two-octets}
-use Rattle·tone·proofs.Header.{header-length}
-use Rattle·tone·proofs.wave.write_wave.Needs as need
+use Rattle.std.proofs.Common.{◌≡◌, ℕ, ◌+◌, ◌-◌, ◌*◌, ◌^◌, ltb, leb, List, [], ◌++◌, length, get_or, pos, Ok, sym, refl, ap, ◌∙◌, append-nil, arith, w16, to_z, of_z, rules}
+use borrow.Rule.Slice.PartMut.{put_mid}
+use Rattle.std.specs.List.{range_with_len, flat_map}
+use Rattle.std.proofs.lemmas.List.{length-append}
+use Rattle.std.proofs.lemmas.Bool.{le-ltb}
+use Rattle.refusal.specs.declared.Refusal.TheVariants.{MemoryTooShort}
+use Rattle.refusal.proofs.Checks.{past, passed}
+use Rattle.refusal.specs.Answer.{laid}
+use Rattle.refusal.proofs.Front.{joined_counting_more, laid_more, laid_over, length-joined}
+use Rattle.stage.proofs.AnswersKnown.{ok_is}
+use Rattle.tone.specs.Wave.{header_of, past_header, sample_octets, stored_size, two_octets}
+use Rattle.tone.proofs.Header.{header_length}
+use Rattle.tone.proofs.wave.write_wave.Goals as goal
 
 -- the header stands in front once it was copied
-laid-header : (size : ℕ) (copied out : List ℕ) → copied ≡ header-of size → putMid 0 44 out copied ≡ laid (header-of size) out
-laid-header size copied out is = laid-more [] copied out 0 44 refl (ap length is ∙ header-length size) ∙ ap (λ l. laid l out) is
+laid_header : (size : ℕ) (copied out : List ℕ) → copied ≡ header_of size → put_mid 0 44 out copied ≡ laid (header_of size) out
+laid_header size copied out is = laid_more [] copied out 0 44 refl (ap length is ∙ header_length size) ∙ ap (λ l. laid l out) is
 
-pub loop-i-holds : need.loop-i-holds
-loop-i-holds c =
-    let out = c .args .out .now in
-    let size : ℕ = stored-size (length (c .args .samples .now)) in
-    let header = header-of size in
-    let is = c .copy-from-slice .ensures .after ∙ c .header .ensures in
-    let stands = laid-header size (c .copy-from-slice .last .self) out is in
-    stands ∙ sym (laid-over header [] out ∙ ap (λ l. laid l out) (append-nil header)) ∙ ap (laid (header ++ [])) (sym stands)
+pub loop-i-init : goal.loop-i-init
+loop-i-init c =
+    let out = c.args.out.now in
+    let size : ℕ = stored_size (length c.args.samples.now) in
+    let header = header_of size in
+    let is = c.copy-from-slice.ensures.after ∙ c.header.ensures in
+    let stands = laid_header size c.copy-from-slice.new.self out is in
+    stands ∙ sym (laid_over header [] out ∙ ap (λ l. laid l out) (append-nil header)) ∙ ap (laid (header ++ [])) (sym stands)
 
-pub loop-i-again : need.loop-i-again
-loop-i-again c =
-    let i : ℕ = c .loop-i .i in
-    let f = sample-octets (c .args .samples .now) in
-    let header = header-of (stored-size (length (c .args .samples .now))) in
-    let before = header ++ joined f (counting 0 i) in
-    let start = putMid 0 44 (c .args .out .now) (c .copy-from-slice .last .self) in
-    let part = c .copy-from-slice-in-loop-i .last .self in
-    let held : toZ w16 (ofZ w16 (getD (c .args .samples .now) i (pos 0))) ≡ getD (c .args .samples .now) i (pos 0) = search needs in
-    let is : part ≡ f i = c .copy-from-slice-in-loop-i .ensures .after ∙ c .octets .ensures ∙ ap (λ z. two-octets (ofZ w16 z)) held in
-    let long : length before ≡ 44 + 2 * i = length-append header (joined f (counting 0 i)) ∙ (λ x. header-length (stored-size (length (c .args .samples .now))) x + length-joined f 2 (λ _. refl) i x) in
+pub loop-i-preserved : goal.loop-i-preserved
+loop-i-preserved c =
+    let i : ℕ = c.loop-i.i in
+    let f = sample_octets c.args.samples.now in
+    let header = header_of (stored_size (length c.args.samples.now)) in
+    let before = header ++ flat_map f (range_with_len 0 i) in
+    let start = put_mid 0 44 c.args.out.now c.copy-from-slice.new.self in
+    let part = c.copy-from-slice-in-loop-i.new.self in
+    let held : to_z w16 (of_z w16 (get_or c.args.samples.now i (pos 0))) ≡ get_or c.args.samples.now i (pos 0) = search rules in
+    let is : part ≡ f i = c.copy-from-slice-in-loop-i.ensures.after ∙ c.octets.ensures ∙ ap (λ z. two_octets (of_z w16 z)) held in
+    let long : length before ≡ 44 + 2 * i = length-append header (flat_map f (range_with_len 0 i)) ∙ (λ x. header_length (stored_size (length c.args.samples.now)) x + length-joined f 2 (λ _. refl) i x) in
     let two : 44 + 2 * i + 2 - (44 + 2 * i) ≡ 2 = omega arith in
-    (λ x. putMid (44 + 2 * i) (two x) (c .loop-i .inv x) part)
-    ∙ laid-more before part start (44 + 2 * i) 2 long (ap length is)
-    ∙ ap (λ l. laid l start) (ap (λ l. before ++ l) is ∙ joined-counting-more f header i)
+    (λ x. put_mid (44 + 2 * i) (two x) (c.loop-i.invariant x) part)
+    ∙ laid_more before part start (44 + 2 * i) 2 long (ap length is)
+    ∙ ap (λ l. laid l start) (ap (λ l. before ++ l) is ∙ joined_counting_more f header i)
 
-pub returns : need.returns
+pub returns : goal.returns
 returns c =
-    let out = c .args .out .now in
-    let n : ℕ = length (c .args .samples .now) in
-    let f = sample-octets (c .args .samples .now) in
-    let header = header-of (stored-size n) in
-    let is = c .copy-from-slice .ensures .after ∙ c .header .ensures in
-    let stands = laid-header (stored-size n) (c .copy-from-slice .last .self) out is in
-    let start = putMid 0 44 out (c .copy-from-slice .last .self) in
-    let all : c .loop-i .i ≡ n = omega arith in
-    let whole = header ++ joined f (counting 0 n) in
-    let counted = passed (past-header n) MemoryTooShort _ (c .in-Continue-size .size) (c .in-Continue-size .ensures tt) in
-    let size : c .in-Continue-size .size ≡ 44 + 2 * n = ok-is (counted .1) in
+    let out = c.args.out.now in
+    let n : ℕ = length c.args.samples.now in
+    let f = sample_octets c.args.samples.now in
+    let header = header_of (stored_size n) in
+    let is = c.copy-from-slice.ensures.after ∙ c.header.ensures in
+    let stands = laid_header (stored_size n) c.copy-from-slice.new.self out is in
+    let start = put_mid 0 44 out c.copy-from-slice.new.self in
+    let all : c.loop-i.i ≡ n = omega arith in
+    let whole = header ++ flat_map f (range_with_len 0 n) in
+    let counted = passed (past_header n) MemoryTooShort _ c.in-ok-size.size c.in-ok-size.ensures in
+    let size : c.in-ok-size.size ≡ 44 + 2 * n = ok_is counted.1 in
     let room = le-ltb (length out) (44 + 2 * n) (omega (arith, size)) in
     record {
-      answer = counted .1 ∙ sym (past (past-header n) MemoryTooShort _ (counted .0) ∙ past (ltb (length out) (44 + 2 * n)) MemoryTooShort (Ok (44 + 2 * n)) room);
-      memory = c .loop-i .inv ∙ ap (λ m. laid (header ++ joined f (counting 0 m)) start) all ∙ ap (laid whole) stands ∙ laid-over header (joined f (counting 0 n)) out;
+      answer = counted.1 ∙ sym (past (past_header n) MemoryTooShort _ counted.0 ∙ past (ltb (length out) (44 + 2 * n)) MemoryTooShort (Ok (44 + 2 * n)) room);
+      memory = c.loop-i.invariant ∙ ap (λ m. laid (header ++ flat_map f (range_with_len 0 m)) start) all ∙ ap (laid whole) stands ∙ laid_over header (flat_map f (range_with_len 0 n)) out;
     }

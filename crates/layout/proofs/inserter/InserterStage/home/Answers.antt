@@ -1,8 +1,8 @@
-use borrow.Author.Needs.{needs}
-use Rattle·layout·proofs.InserterLaws.{home-from}
-use Rattle·layout·proofs.inserter.InserterStage.home.Needs as need
+use Rattle.std.proofs.Common.{rules}
+use Rattle.layout.specs.InserterLaws.{home_from}
+use Rattle.layout.proofs.inserter.InserterStage.home.Goals as goal
 
-pub returns : need.returns
+pub returns : goal.returns
 returns c =
-    let there = home-from (c .args .n) (c .args .element) (c .carrier-of .result) (search needs) (c .carrier-of .ensures .carries) (c .carrier-of .ensures .order) in
-    search needs
+    let there = home_from c.args.n c.args.element c.carrier-of.result (search rules) c.carrier-of.ensures.carries c.carrier-of.ensures.order in
+    search rules

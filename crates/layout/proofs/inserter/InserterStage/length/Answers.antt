@@ -1,12 +1,11 @@
-use borrow.Author.Needs.{needs}
-use Prim.Native.Nat.{_-_}
-use Rattle·layout·proofs.InserterLaws.{size-from, size-none}
-use Rattle·layout·proofs.inserter.InserterStage.length.Needs as need
+use Rattle.std.proofs.Common.{◌-◌, rules}
+use Rattle.layout.specs.InserterLaws.{size_from, size_none}
+use Rattle.layout.proofs.inserter.InserterStage.length.Goals as goal
 
-pub returns : need.returns
+pub returns : goal.returns
 returns c =
-    let ends = size-from (c .args .n) (c .carrier-of .result) (search needs) (c .carrier-of .ensures .carries) (c .carrier-of .ensures .order) in
-    search needs
+    let ends = size_from c.args.n c.carrier-of.result (search rules) c.carrier-of.ensures.carries c.carrier-of.ensures.order in
+    search rules
 
-pub returns-then-n-eq0 : need.returns-then-n-eq0
-returns-then-n-eq0 c = let none = size-none in search needs
+pub returns-then-n-eq0 : goal.returns-then-n-eq0
+returns-then-n-eq0 c = let none = size_none in search rules

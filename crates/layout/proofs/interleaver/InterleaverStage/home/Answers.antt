@@ -1,7 +1,7 @@
-use borrow.Author.Needs.{needs}
-use Rattle·layout·proofs.InterleaverLaws.{interleaver-home}
-use Rattle·layout·proofs.interleaver.InterleaverStage.home.Needs as need
+use Rattle.std.proofs.Common.{rules}
+use Rattle.layout.specs.InterleaverLaws.{interleaver_home}
+use Rattle.layout.proofs.interleaver.InterleaverStage.home.Goals as goal
 
-pub returns : need.returns
+pub returns : goal.returns
 returns c =
-    let there = interleaver-home (c .args .self .now .preamble) (c .args .n) (c .args .element) (search needs) in search needs
+    let there = interleaver_home c.args.self.now.preamble c.args.n c.args.element (search rules) in search rules

@@ -1,6 +1,6 @@
-use borrow.Author.Needs.{needs}
-use Rattle·layout·proofs.LeadLaws.{lead-home}
-use Rattle·layout·proofs.lead.LeadStage.home.Needs as need
+use Rattle.std.proofs.Common.{rules}
+use Rattle.layout.specs.LeadLaws.{lead_home}
+use Rattle.layout.proofs.lead.LeadStage.home.Goals as goal
 
-pub returns : need.returns
-returns c = let there = lead-home (c .args .n) (c .args .element) (search needs) in search needs
+pub returns : goal.returns
+returns c = let there = lead_home c.args.n c.args.element (search rules) in search rules

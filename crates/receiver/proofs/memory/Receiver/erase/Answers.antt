@@ -1,31 +1,25 @@
-use mathlib.Core.Path.{_≡_, refl, ap, sym, _∙_}
-use native.Mathlib.Omega.{arith}
-use borrow.Author.Needs.{needs}
-use Prim.Native.Nat.{_+_, _≤_}
-use lib.IntN.{pos}
-use denote.Ref.{now}
-use lib.ListN.{length, replicate}
-use Rattle·refusal.proofs.Any.{none-take-set}
-use Rattle·values.specs.Values.{out-of-range}
-use Rattle·std.proofs.shelf.Lists.{length-replicate}
-use Rattle·std.proofs.shelf.Edits.{paste-none}
-use Rattle·receiver·proofs.Writes.{erase-more, erase-all}
-use Rattle·receiver·proofs.memory.Receiver.erase.Needs as need
+use Rattle.std.proofs.Common.{◌≡◌, ◌+◌, ◌≤◌, length, replicate, pos, sym, refl, ap, ◌∙◌, arith, rules}
+use Rattle.refusal.proofs.Any.{none_take_set}
+use Rattle.values.specs.Values.{out_of_range}
+use Rattle.std.proofs.lemmas.List.{length-replicate}
+use Rattle.std.proofs.lemmas.List.Edits.{paste_none}
+use Rattle.receiver.proofs.Writes.{erase_more, erase_all}
+use Rattle.receiver.proofs.memory.Receiver.erase.Goals as goal
 
-pub loop-i-holds : need.loop-i-holds
-loop-i-holds c = (paste-none _ (c .args .place) (replicate 0 (pos 0)), refl, refl, refl)
+pub loop-i-init : goal.loop-i-init
+loop-i-init c = (paste_none _ c.args.place (replicate 0 (pos 0)), refl, refl, refl)
 
-pub loop-i-again : need.loop-i-again
-loop-i-again c =
-    let inv = c .loop-i .inv in
-    let room : c .args .place + c .args .n ≤ length (c .args .self .now .values .now) = omega (arith, c .pre) in
-    (erase-more (c .args .self .now .values .now) _ (c .args .place) (c .args .n) (c .loop-i .i) _ room (omega arith) (inv .0) refl, inv .1, inv .2, inv .3)
+pub loop-i-preserved : goal.loop-i-preserved
+loop-i-preserved c =
+    let inv = c.loop-i.invariant in
+    let room : c.args.place + c.args.n ≤ length c.args.self.now.values.now = omega (arith, c.requires) in
+    (erase_more c.args.self.now.values.now _ c.args.place c.args.n c.loop-i.i _ room (omega arith) inv.0 refl, inv.1, inv.2, inv.3)
 
-pub returns : need.returns
+pub returns : goal.returns
 returns c =
-    let inv = c .loop-i .inv in
-    record { memory = erase-all (c .args .self .now .values .now) _ (c .args .place) (c .args .n) (c .loop-i .i) (omega arith) (inv .0); count = inv .1; start = inv .2; same = inv .3 }
+    let inv = c.loop-i.invariant in
+    record { memory = erase_all c.args.self.now.values.now _ c.args.place c.args.n c.loop-i.i (omega arith) inv.0; count = inv.1; start = inv.2; same = inv.3 }
 
-pub ghost-self : need.ghost-self
-ghost-self c =
-    (search needs, (none-take-set out-of-range (c .loop-i .self .count) (c .args .place + c .loop-i .i) (now (c .loop-i .self .values)) _ (c .loop-i .self .sound) refl, tt))
+pub invariant-of-self : goal.invariant-of-self
+invariant-of-self c =
+    (search rules, (none_take_set out_of_range c.loop-i.self.count (c.args.place + c.loop-i.i) c.loop-i.self.values.now _ c.loop-i.self.sound refl, tt))

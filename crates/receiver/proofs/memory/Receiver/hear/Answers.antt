@@ -1,43 +1,35 @@
-use mathlib.Core.Path.{_≡_, refl, sym}
-use mathlib.Core.Bool.{true, false}
-use native.Mathlib.Omega.{arith}
-use borrow.Author.Needs.{needs}
-use lib.IntN.{pos}
-use lib.ListN.{getD}
-use mir.Val.{SFits}
-use mir.Syntax.{w8}
-use Prim.Native.Nat.{_+_, _≤_}
-use Rattle·refusal.specs.Counting.{any}
-use Rattle·values.specs.Values.{out-of-range}
-use Rattle·receiver·proofs.Followed.{stays, appended, out-of-range-is, in-range-is, range-more, range-some, range-none, hear-refused, hear-accepted}
-use Rattle·receiver·proofs.memory.Receiver.hear.Needs as need
+use Rattle.std.proofs.Common.{◌≡◌, ◌+◌, ◌≤◌, true, false, get_or, pos, sym, refl, arith, w8, SFits, rules}
+use Rattle.refusal.specs.Counting.{any}
+use Rattle.values.specs.Values.{out_of_range}
+use Rattle.receiver.proofs.Followed.{stays, appended, out_of_range_is, in_range_is, range_more, range_some, range_none, hear_refused, hear_accepted}
+use Rattle.receiver.proofs.memory.Receiver.hear.Goals as goal
 
-pub loop-value-again : need.loop-value-again
-loop-value-again c =
-    let fits : SFits w8 (getD (c .args .heard .now) (c .loop-value .value-index) (pos 0)) = search needs in
-    range-more (c .args .heard .now) (c .loop-value .value-index) (c .loop-value-test .taken) (in-range-is _ fits (c .if-value .left)) (c .loop-value .inv)
+pub loop-value-preserved : goal.loop-value-preserved
+loop-value-preserved c =
+    let fits : SFits w8 (get_or c.args.heard.now c.loop-value.value-index (pos 0)) = search rules in
+    range_more c.args.heard.now c.loop-value.value-index c.loop-value-test.true (in_range_is _ fits c.if-value.false) c.loop-value.invariant
 
-pub returns-then-value : need.returns-then-value
+pub returns-then-value : goal.returns-then-value
 returns-then-value c =
-    let fits : SFits w8 (getD (c .args .heard .now) (c .loop-value .value-index) (pos 0)) = search needs in
-    let bad : any out-of-range (c .args .heard .now) ≡ true = range-some (c .args .heard .now) (c .loop-value .value-index) (c .loop-value-test .taken) (out-of-range-is _ fits (c .if-value .taken)) (c .loop-value .inv) in
-    record { answer = rw bad refl; after = stays (c .args .self .now) _ (rw bad refl) }
+    let fits : SFits w8 (get_or c.args.heard.now c.loop-value.value-index (pos 0)) = search rules in
+    let bad : any out_of_range c.args.heard.now ≡ true = range_some c.args.heard.now c.loop-value.value-index c.loop-value-test.true (out_of_range_is _ fits c.if-value.true) c.loop-value.invariant in
+    record { answer = rw bad refl; after = stays c.args.self.now _ (rw bad refl) }
 
-pub returns-then-heard-free : need.returns-then-heard-free
+pub returns-then-heard-free : goal.returns-then-heard-free
 returns-then-heard-free c =
-    let good = range-none (c .args .heard .now) (c .loop-value .value-index) (c .loop-value-test .left) (c .loop-value .inv) in
-    let refused = hear-refused (c .args .self .now) (c .args .heard .now) good (omega arith) in
-    record { answer = sym refused; after = stays (c .args .self .now) _ (rw refused refl) }
+    let good = range_none c.args.heard.now c.loop-value.value-index c.loop-value-test.false c.loop-value.invariant in
+    let refused = hear_refused c.args.self.now c.args.heard.now good (omega arith) in
+    record { answer = sym refused; after = stays c.args.self.now _ (rw refused refl) }
 
-pub returns : need.returns
+pub returns : goal.returns
 returns c =
-    let good = range-none (c .args .heard .now) (c .loop-value .value-index) (c .loop-value-test .left) (c .loop-value .inv) in
-    let accepted = hear-accepted (c .args .self .now) (c .args .heard .now) good (omega arith) in
+    let good = range_none c.args.heard.now c.loop-value.value-index c.loop-value-test.false c.loop-value.invariant in
+    let accepted = hear_accepted c.args.self.now c.args.heard.now good (omega arith) in
     record {
       answer = sym accepted;
-      after = appended (c .args .self .now) (c .append .last .self) (c .args .heard .now) (omega arith) (c .append .ensures .memory) (c .append .ensures .count) (c .append .ensures .start) (c .append .ensures .same) accepted;
+      after = appended c.args.self.now c.append.new.self c.args.heard.now (omega arith) c.append.ensures.memory c.append.ensures.count c.append.ensures.start c.append.ensures.same accepted;
     }
 
-pub append-requires : need.append-requires
-append-requires c κs =
-    record { fits = omega arith; good = range-none (c .args .heard .now) (c .loop-value .value-index) (c .loop-value-test .left) (c .loop-value .inv) }
+pub append-requires : goal.append-requires
+append-requires c =
+    record { fits = omega arith; good = range_none c.args.heard.now c.loop-value.value-index c.loop-value-test.false c.loop-value.invariant }

@@ -1,19 +1,17 @@
-use mathlib.Core.Path.{_≡_}
-use borrow.Author.Needs.{needs}
-use lib.ListN.{length}
-use Rattle·receiver·specs.State.{standing}
-use Rattle·receiver·specs.Held.{held, read-of}
-use Rattle·receiver·proofs.Shown.{read-made}
-use Rattle·receiver·proofs.memory.Receiver.read.Needs as need
+use Rattle.std.proofs.Common.{◌≡◌, length, rules}
+use Rattle.receiver.specs.State.{standing}
+use Rattle.receiver.specs.Held.{held, read_of}
+use Rattle.receiver.proofs.Shown.{read_made}
+use Rattle.receiver.proofs.memory.Receiver.read.Goals as goal
 
-pub returns : need.returns
+pub returns : goal.returns
 returns g c =
-    let r = c .args .self .now in
-    let p = g .S·Stage .meaning (c .args .pile .now) in
-    let answer : c .nearest-burst .result ≡ read-of r p (c .args .m) (length (c .args .text .now)) (length (c .args .work .now)) = search needs in
+    let r = c.args.self.now in
+    let p = g.S.Stage.meaning c.args.pile.now in
+    let answer : c.nearest-burst.result ≡ read_of r p c.args.m (length c.args.text.now) (length c.args.work.now) = search rules in
     record {
       answer = answer;
-      text = search needs;
-      working = search needs;
-      nearest = read-made r p (g .S·Stage·met .homes (c .args .pile .now)) (c .args .m) _ _ (c .nearest-burst .result) answer;
+      text = search rules;
+      working = search rules;
+      nearest = read_made r p (g.met.S.Stage.homes c.args.pile.now) c.args.m _ _ c.nearest-burst.result answer;
     }

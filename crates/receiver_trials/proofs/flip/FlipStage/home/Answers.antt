@@ -1,10 +1,10 @@
-use borrow.Author.Needs.{needs}
-use Rattle·stage.proofs.Placed.{placed-home}
-use Rattle·receiver_trials·specs.Flip.{flip}
-use Rattle·receiver_trials·proofs.FlipLaws.{placed}
-use Rattle·receiver_trials·proofs.flip.FlipStage.home.Needs as need
+use Rattle.std.proofs.Common.{rules}
+use Rattle.stage.proofs.Placed.{placed_home}
+use Rattle.receiver_trials.specs.Flip.{flip}
+use Rattle.receiver_trials.specs.FlipLaws.{placed}
+use Rattle.receiver_trials.proofs.flip.FlipStage.home.Goals as goal
 
-pub returns : need.returns
+pub returns : goal.returns
 returns c =
-    let there = placed-home flip (λ i. i) placed (c .args .n) (c .args .element) (search needs) in
-    search needs
+    let there = placed_home flip (λ i. i) placed c.args.n c.args.element (search rules) in
+    search rules

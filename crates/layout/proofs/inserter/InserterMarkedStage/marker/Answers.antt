@@ -1,0 +1,18 @@
+use Rattle.std.proofs.Common.{rules}
+use Rattle.layout.specs.InserterLaws.{inserter_count, inserter_marked, inserter_marker}
+use Rattle.layout.proofs.inserter.InserterMarkedStage.marker.Goals as goal
+
+pub overflow-mul-result : goal.overflow-mul-result
+overflow-mul-result c = let all = inserter_count c.args.n in search rules
+
+pub overflow-add-result : goal.overflow-add-result
+overflow-add-result c = let all = inserter_count c.args.n in search rules
+
+pub overflow-add-result-2 : goal.overflow-add-result-2
+overflow-add-result-2 c = let all = inserter_count c.args.n in search rules
+
+pub returns : goal.returns
+returns c =
+    let all = inserter_count c.args.n in
+    let here = inserter_marker c.args.n c.args.index (search rules) in
+    record { answer = search rules; marked = inserter_marked c.args.n }

@@ -1,0 +1,8 @@
+use Rattle.std.proofs.Common.{rules}
+use Rattle.layout.specs.InserterLaws.{inserter_count, inserter_marked}
+use Rattle.layout.proofs.inserter.InserterMarkedStage.marker_count.Goals as goal
+
+pub returns : goal.returns
+returns c =
+    let all = inserter_count c.args.n in
+    record { answer = search rules; marked = inserter_marked c.args.n }

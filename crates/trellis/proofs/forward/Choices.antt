@@ -1,8 +1,0 @@
-use Rattle·trellis·specs.Trellis.{Bounded}
-use Rattle·trellis·proofs.Traces.{Survivors}
-use Rattle·trellis·proofs.forward.Given as given
-
--- the decisions so far lead back to the survivors, and the costs so far are small
-abbrev pub Inv-loop-step : given.InvT-loop-step
-Inv-loop-step g l =
-    Survivors (g .S·SoftBits .cost (l .source)) (l .step) (l .work) (l .metrics) × Bounded (g .S·SoftBits .cost (l .source)) (l .step) 65535
