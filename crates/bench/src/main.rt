@@ -1,5 +1,7 @@
 // Times the dear calls: the way through the trellis, finding, reading, writing and playing. With no argument it prints
 // only what they return; with a number of rounds it prints the least time of each too.
+#![tactic(auto)]
+
 use anyhow::anyhow;
 use code::{coded_count, encode};
 use exchange::usual_pile;

@@ -1,6 +1,8 @@
 // Card readings to values: what a reading of the line card says of a frame's two elements.
+#![tactic(auto)]
+
 ghost use Rattle.std.specs.Prelude.{◌≡◌, true, false, T, pos, IfOk};
-ghost use Rattle.std.specs.Float.{fin, binary32};
+ghost use Rattle.std.specs.Float.{fin, binary32, float_max};
 ghost use Rattle.std.specs.Float.Ieee.{mul, to_signed, le, lt};
 ghost use Rattle.card.specs.Floats.{full_size, is_level, is_balance, share as share_of, strength as strength_of};
 ghost use Rattle.card.specs.Readings.{in_range, first_one, first_zero, second_one, second_zero, greatest as greatest_of, levels_pair, answer, IsValue, Promised};
@@ -84,6 +86,13 @@ fn balance_pair(first: f32, second: f32) -> (i8, i8)
     (strength(first), strength(second))
 }
 
+// The greater of two floats: the first of two that are equal, and the other of one that is no number.
+fn greater(x: f32, y: f32) -> f32
+    ensures { result ≡ float_max x y }
+{
+    if y <= x || y.is_nan() { x } else { y }
+}
+
 impl Levels {
     fn in_range(&self) -> bool
         ensures { result ≡ in_range self.now }
@@ -98,31 +107,31 @@ impl Levels {
     fn first_one(&self) -> f32
         ensures { result ≡ first_one self.now }
     {
-        self.hz800.max(self.hz1000)
+        greater(self.hz800, self.hz1000)
     }
 
     fn first_zero(&self) -> f32
         ensures { result ≡ first_zero self.now }
     {
-        self.hz400.max(self.hz600)
+        greater(self.hz400, self.hz600)
     }
 
     fn second_one(&self) -> f32
         ensures { result ≡ second_one self.now }
     {
-        self.hz600.max(self.hz1000)
+        greater(self.hz600, self.hz1000)
     }
 
     fn second_zero(&self) -> f32
         ensures { result ≡ second_zero self.now }
     {
-        self.hz400.max(self.hz800)
+        greater(self.hz400, self.hz800)
     }
 
     fn greatest(&self) -> f32
         ensures { result ≡ greatest_of self.now }
     {
-        self.first_zero().max(self.first_one())
+        greater(self.first_zero(), self.first_one())
     }
 
     fn pair(&self) -> (i8, i8)

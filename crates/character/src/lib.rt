@@ -1,4 +1,6 @@
 // A text's octets as a row of items: enquiries, idles, other characters in UTF-8, and broken octets.
+#![tactic(auto)]
+
 ghost use Rattle.std.specs.Prelude.{◌≡◌, ◌-◌, ◌<◌, List, length, nat_lt, slice_index};
 ghost use Rattle.refusal.specs.Answer.{after};
 ghost use Rattle.character.specs.Reader.{Next, OnlyItems, item_at, front_item, octets_of, tally_of, holds_enquiry, is_control, without_controls, removal_answer};

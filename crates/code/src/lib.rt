@@ -1,5 +1,7 @@
 // Octets to bits, and bits to coded bits: a convolutional code of rate 1/4 with a memory of four bits. And how much noise
 // the code corrects.
+#![tactic(auto)]
+
 ghost use Rattle.std.specs.Prelude.{◌≡◌, ℕ, ◌+◌, ◌*◌, Bool, false, List, map, length, Ok};
 ghost use Rattle.refusal.specs.Answer.{after, text_checked};
 ghost use Rattle.code.specs.Coder.{before, bit, coded_bits, coded_bit_answer, coded_count, encode_answer};

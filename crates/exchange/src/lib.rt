@@ -1,4 +1,6 @@
 // The exchange's line: its usual pile, and the whole way of a text out in memory that the caller is given.
+#![tactic(auto)]
+
 ghost use Rattle.std.specs.Prelude.{◌≡◌};
 ghost use Rattle.layout.specs.PileOfThree.{pile_meaning, pile_markers};
 ghost use Rattle.layout.specs.Standard.{standard_meaning, standard_markers};

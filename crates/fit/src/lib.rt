@@ -1,4 +1,6 @@
 // Where a burst stands among what was heard: the start at which a pile's markers fit best.
+#![tactic(auto)]
+
 ghost use Rattle.std.specs.Prelude.{◌≡◌, ◌<◌, ◌≤◌, T, length, pos, negsuc, neg_ℤ, ◌≤ℤ◌, if◌then◌else◌, Ok};
 ghost use Rattle.fit.specs.Fit.{fit, fits_well, best_of, best_start_answer};
 

@@ -1,4 +1,6 @@
 // Whole histories: a list of calls replayed on a receiver, each answer being the one that the rules give.
+#![tactic(auto)]
+
 ghost use Rattle.std.specs.Prelude.{◌≡◌, true, map, length, take, is_ok, Ok, nat_lt};
 ghost use Rattle.refusal.specs.declared.Refusal.TheVariants.{MemoryTooShort};
 ghost use Rattle.refusal.specs.Answer.{refused_when};

@@ -1,4 +1,6 @@
 // The layout of a burst: mutes and resynchronisation, interleaving with scrambling and preamble, and the lead.
+#![tactic(auto)]
+
 ghost use Rattle.std.specs.Prelude.{◌≡◌, not, Ok};
 ghost use Rattle.refusal.specs.declared.Refusal.TheVariants.{CountNotTaken};
 ghost use Rattle.refusal.specs.Answer.{refused_when};

@@ -1,5 +1,7 @@
 // Runs two lines through a list of calls each: one whose far end answers, and one that stays silent for long.
 // Prints each call, its answer with the octets to send, and the state of the line after it.
+#![tactic(auto)]
+
 ghost use Rattle.std.specs.Prelude.{◌≡◌, false, is_some, if◌then◌else◌, Some, None, codes};
 ghost use Rattle.character.specs.Reader.{holds_enquiry};
 ghost use Rattle.negotiation.specs.declared.State.TheVariants.{Known as KnownLine};

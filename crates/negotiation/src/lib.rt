@@ -1,4 +1,6 @@
 // Whether the far end has a modem of our kind: the states of a line, and the acknowledgements that it owes.
+#![tactic(auto)]
+
 ghost use Rattle.std.specs.Prelude.{◌≡◌, true};
 ghost use Rattle.character.specs.Reader.{holds_enquiry};
 ghost use Rattle.negotiation.specs.declared.State.TheVariants.{New as NewLine, Asking as AskingLine, Known as KnownLine};

@@ -1,4 +1,6 @@
 // Two stages in series, which again are a stage: the elements that leave the lower one enter the upper one.
+#![tactic(auto)]
+
 ghost use Rattle.std.specs.Prelude.{◌≡◌};
 ghost use Rattle.stage.specs.Piled.{piled, piled_markers, raised_answer, Enters};
 ghost use Rattle.stage.specs.Homes.{piled_homes};

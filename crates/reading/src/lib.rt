@@ -1,4 +1,6 @@
 // Reading: a burst among what was heard, through a pile, as soft bits for the trellis.
+#![tactic(auto)]
+
 ghost use Rattle.std.specs.Prelude.{◌≡◌, ◌*◌, ◌≤◌, true, false, T, length, is_ok, Ok};
 ghost use Rattle.refusal.specs.Answer.{after};
 ghost use Rattle.stage.specs.declared.Element.TheVariants.{Zero, One};

@@ -1,4 +1,6 @@
 // The receiver: values heard, lost ones among them, and the start at which a burst stands.
+#![tactic(auto)]
+
 mod calls;
 mod memory;
 

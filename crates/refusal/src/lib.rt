@@ -1,4 +1,6 @@
 // The one closed list of refusals. Every call of the modem answers its result or one of these.
+#![tactic(auto)]
+
 ghost use Rattle.std.specs.Prelude.{◌≡◌, Some};
 ghost use Rattle.refusal.specs.Table.{number_of, sentence_of};
 

@@ -1,4 +1,6 @@
 // The round trip: what is written for a text, heard at full strength, is read as that text.
+#![tactic(auto)]
+
 ghost use Rattle.std.specs.Prelude.{◌≡◌, ◌≤◌, map, length, is_ok, Ok};
 ghost use Rattle.refusal.specs.Answer.{after, laid};
 ghost use Rattle.stage.specs.Burst.{burst};

@@ -1,4 +1,6 @@
 // What a stage is: how elements on their way to the tones are moved, inverted and joined by others.
+#![tactic(auto)]
+
 ghost use Rattle.std.specs.Prelude.{◌≡◌, ℕ, Bool, List};
 ghost use Rattle.stage.specs.declared.Content.{Content as ContentOf};
 ghost use Rattle.stage.specs.declared.Marker.{Marker as MarkerOf};

@@ -1,4 +1,6 @@
 // Elements to sound: two elements sound for five milliseconds at one of four frequencies.
+#![tactic(auto)]
+
 ghost use Rattle.std.specs.Prelude.{◌≡◌, ℕ, ◌/◌, ◌<◌, map, length};
 ghost use Rattle.std.specs.List.{range_with_len};
 ghost use Rattle.refusal.specs.Answer.{after};

@@ -1,4 +1,6 @@
 // The transmitter: a text to its burst.
+#![tactic(auto)]
+
 ghost use Rattle.std.specs.Prelude.{◌≡◌, map, length, Ok};
 ghost use Rattle.refusal.specs.Answer.{after};
 ghost use Rattle.stage.specs.Elements.{octet_of, evaluated};

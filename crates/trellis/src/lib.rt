@@ -1,4 +1,6 @@
 // The way through the trellis to the nearest text (Viterbi's), over any source of soft bits.
+#![tactic(auto)]
+
 ghost use Rattle.std.specs.Prelude.{◌≡◌, ℕ, ◌+◌, ◌*◌, ◌/◌, ◌%◌, ◌^◌, ◌<◌, ◌≤◌, Bool, true, false, ltb, List, [], ◌∷◌, length, take, is_ok, IfOk, if◌then◌else◌, nat_lt, slice_index};
 ghost use Rattle.refusal.specs.Answer.{after};
 ghost use Rattle.code.specs.Nearest.{nearest};

@@ -1,4 +1,6 @@
 // What counts at each place that was heard: the one view over which bursts are found and read.
+#![tactic(auto)]
+
 ghost use Rattle.std.specs.Prelude.{◌≡◌, false, List, ◌+◌, ℤ, pos, length, get_or};
 ghost use Rattle.refusal.specs.Counting.{any};
 ghost use Rattle.values.specs.Values.{out_of_range};

@@ -1,4 +1,6 @@
 // The values file of a burst at full strength: a line for the text's length, then a line for each frame.
+#![tactic(auto)]
+
 ghost use Rattle.std.specs.Prelude.{◌≡◌, ◌<◌, length};
 ghost use Rattle.refusal.specs.Answer.{after};
 ghost use Rattle.stage.specs.Elements.{full_strength};

@@ -1,4 +1,6 @@
 // Plays worked examples of the way out and the way back, and prints each with the result that the rules give by hand.
+#![tactic(auto)]
+
 use card::{Levels, Reading};
 use exchange::usual_pile;
 use history::{Answer, Call, replay};

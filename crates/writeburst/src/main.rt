@@ -1,5 +1,7 @@
 // Shows what a text becomes on its way out: reads its octets from standard input, and writes each layer, or the burst
 // as a values file or a sound file.
+#![tactic(auto)]
+
 mod report;
 mod request;
 mod stop;

@@ -10,7 +10,7 @@ returns c =
     let x = c.args.first in
     let y = c.args.second in
     let e =
-    pair_of (to_z-of_z w8 c.strength.result (record { sfits = c.strength.type-inv }) ∙ c.strength.ensures.is) (to_z-of_z w8 c.strength-2.result (record { sfits = c.strength-2.type-inv }) ∙ c.strength-2.ensures.is) in
+    pair_of (to_z-of_z w8 c.strength.result (record { sfits = c.strength.type_inv }) ∙ c.strength.ensures.is) (to_z-of_z w8 c.strength-2.result (record { sfits = c.strength-2.type_inv }) ∙ c.strength-2.ensures.is) in
     record {
       is = e;
       promised = subst (Promised (Balance x y)) (sym e) (record { first_value = is_value x c.requires.0; second_value = is_value y c.requires.1; exact = balance_exact x y c.requires.0 c.requires.1 });

@@ -14,7 +14,7 @@ returns c =
     let m : ℕ = length text in
     let i : ℕ = c.args.i in
     let rest = refused_when (leb (coded_count m) i) NoSuchPlace (Ok (coded (bit text) i)) in
-    let told = text_past m (coded_count m) _ rest c.in-ok-coded-count.ensures in
+    let told = text_past m (coded_count m) _ rest c.in_ok-coded_count.ensures in
     let value = ap (λ l. get_or l (i % 4) false) (c.sums-sums.ensures ∙ ap four_sums c.at.ensures) ∙ sum_of (bit text) i in
     let within : leb (coded_count m) i ≡ false = lt-leb (coded_count m) i (omega (arith, told.1)) in
     ap Ok value ∙ sym (past (leb (coded_count m) i) NoSuchPlace (Ok (coded (bit text) i)) within) ∙ sym told.0

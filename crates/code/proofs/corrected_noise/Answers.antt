@@ -7,6 +7,6 @@ use Rattle.code.proofs.corrected_noise.Goals as goal
 pub returns : goal.returns
 returns c =
     record {
-      fifteen = c.noise-below.ensures;
-      corrects = subst (λ n. Corrects n) (sym c.noise-below.ensures) corrects_fifteen;
+      fifteen = c.noise_below.ensures;
+      corrects = subst (λ n. Corrects n) (sym c.noise_below.ensures) corrects_fifteen;
     }

@@ -15,7 +15,7 @@ loop-k-preserved c =
     let b = bit c.args.text.now in
     let k : ℕ = c.loop-k.k in
     let out = c.args.out.now in
-    let register = c.shifted-register.ensures ∙ (λ i. shifted_in (c.bit-at.ensures i) (c.loop-k.invariant.0 i)) ∙ held_shifted b k in
+    let register = c.shifted-register.ensures ∙ (λ i. shifted_in (c.bit_at.ensures i) (c.loop-k.invariant.0 i)) ∙ held_shifted b k in
     let four : c.sums.result ≡ four_sums (latest b k) = c.sums.ensures ∙ ap four_sums register in
     let x : ℕ → Bool = λ j. get_or c.sums.result j false in
     let is : (j : ℕ) → j < 4 → x j ≡ coded b (4 * k + j) = λ j h. ap (λ l. get_or l j false) four ∙ step_gives b k j h in
@@ -36,7 +36,7 @@ returns c =
     let m : ℕ = length text in
     let f = coded (bit text) in
     let rest = refused_when (ltb (length out) (coded_count m)) MemoryTooShort (Ok (coded_count m)) in
-    let told = text_past m (coded_count m) _ rest c.in-ok-count.ensures in
+    let told = text_past m (coded_count m) _ rest c.in_ok-count.ensures in
     let room = le-ltb (length out) (coded_count m) (omega (arith, told.1)) in
     let all : 4 * c.loop-k.k ≡ coded_count m = omega (arith, told.1) in
     record {

@@ -7,6 +7,6 @@ use Rattle.code.proofs.least_separation.Goals as goal
 pub returns : goal.returns
 returns c =
     record {
-      sixteen = c.least-weight.ensures;
-      separated = subst (λ n. Separated n) (sym c.least-weight.ensures) separated;
+      sixteen = c.least_weight.ensures;
+      separated = subst (λ n. Separated n) (sym c.least_weight.ensures) separated;
     }

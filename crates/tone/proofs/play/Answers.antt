@@ -16,45 +16,45 @@ pub returns-then-out-count : goal.returns-then-out-count
 returns-then-out-count c =
     let es = c.args.elements.now in
     let places : ℕ = length c.args.out.now in
-    let k = known es c.in-ok-count.count longest_memory c.in-ok-count.ensures in
+    let k = known es c.in_ok-count.count longest_memory c.in_ok-count.ensures in
     let short = lt-ltb places (20 * length es) (omega (arith, k.is)) in
     record {
       answer = sym (past _ BadElements _ k.frames ∙ held (ltb places (20 * length es)) MemoryTooShort (Ok (20 * length es)) short);
       memory = refl;
     }
 
-pub returns-in-err-first : goal.returns-in-err-first
-returns-in-err-first c =
+pub returns-in_err-first : goal.returns-in_err-first
+returns-in_err-first c =
     let es = c.args.elements.now in
-    let k = known es c.in-ok-count.count longest_memory c.in-ok-count.ensures in
-    absurd (frames_not_refused es (2 * c.loop-frame.frame) c.in-err-first.field-0.0 k.frames (omega arith) c.in-err-first.ensures)
+    let k = known es c.in_ok-count.count longest_memory c.in_ok-count.ensures in
+    absurd (frames_not_refused es (2 * c.loop-frame.frame) c.in_err-first.field-0.0 k.frames (omega arith) c.in_err-first.ensures)
 
-pub returns-in-err-second : goal.returns-in-err-second
-returns-in-err-second c =
+pub returns-in_err-second : goal.returns-in_err-second
+returns-in_err-second c =
     let es = c.args.elements.now in
-    let k = known es c.in-ok-count.count longest_memory c.in-ok-count.ensures in
-    absurd (frames_not_refused es (2 * c.loop-frame.frame + 1) c.in-err-second.field-0.0 k.frames (omega arith) c.in-err-second.ensures)
+    let k = known es c.in_ok-count.count longest_memory c.in_ok-count.ensures in
+    absurd (frames_not_refused es (2 * c.loop-frame.frame + 1) c.in_err-second.field-0.0 k.frames (omega arith) c.in_err-second.ensures)
 
 pub loop-frame-preserved : goal.loop-frame-preserved
 loop-frame-preserved c =
     let es = c.args.elements.now in
     let n : ℕ = c.loop-frame.frame in
     let out = c.args.out.now in
-    let k = known es c.in-ok-count.count longest_memory c.in-ok-count.ensures in
-    let first = frames_element es (2 * n) c.in-ok-first.first k.frames (omega arith) c.in-ok-first.ensures in
-    let second = frames_element es (2 * n + 1) c.in-ok-second.second k.frames (omega arith) c.in-ok-second.ensures in
+    let k = known es c.in_ok-count.count longest_memory c.in_ok-count.ensures in
+    let first = frames_element es (2 * n) c.in_ok-first.first k.frames (omega arith) c.in_ok-first.ensures in
+    let second = frames_element es (2 * n + 1) c.in_ok-second.second k.frames (omega arith) c.in_ok-second.ensures in
     let tone : c.from.result ≡ frame es n = c.from.ensures ∙ (λ x. tone_of (first x) (second x)) in
     let within : (i : ℕ) → i < 40 → tone_sample (frame es n) i ≡ sample es (40 * n + i) = λ i h. sym (λ x. tone_sample (frame es ((ap (λ (p : ℕ). (p + i) / 40) (mul_comm 40 n) ∙ div-mul-add n 40 i h) x)) ((ap (λ (p : ℕ). (p + i) % 40) (mul_comm 40 n) ∙ mod-mul-add n 40 i h) x)) in
     let size : 40 * n + 40 - 40 * n ≡ 40 = omega arith in
-    (λ x. put_mid (40 * n) (size x) (c.loop-frame.invariant x) c.play-frame.new.frame)
-    ∙ filled_part (sample es) (tone_sample (frame es n)) (40 * n) 40 (40 * (n + 1)) out c.play-frame.new.frame (omega arith) (c.play-frame.ensures ∙ ap (λ t. map (tone_sample t) (range_with_len 0 40)) tone) within
+    (λ x. put_mid (40 * n) (size x) (c.loop-frame.invariant x) c.play_frame.new.frame)
+    ∙ filled_part (sample es) (tone_sample (frame es n)) (40 * n) 40 (40 * (n + 1)) out c.play_frame.new.frame (omega arith) (c.play_frame.ensures ∙ ap (λ t. map (tone_sample t) (range_with_len 0 40)) tone) within
 
 pub returns : goal.returns
 returns c =
     let es = c.args.elements.now in
     let out = c.args.out.now in
     let n : ℕ = length es in
-    let k = known es c.in-ok-count.count longest_memory c.in-ok-count.ensures in
+    let k = known es c.in_ok-count.count longest_memory c.in_ok-count.ensures in
     let room = le-ltb (length out) (20 * n) (omega (arith, k.is)) in
     let all : 40 * c.loop-frame.frame ≡ 20 * n = omega (arith, k.even) in
     record {

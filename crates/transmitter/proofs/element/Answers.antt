@@ -6,32 +6,32 @@ use Rattle.stage.specs.Meaning.{carries}
 use Rattle.transmitter.proofs.Octets.{bit_not_refused, bit_enters, opposite_of}
 use Rattle.transmitter.proofs.element.Goals as goal
 
-pub returns-in-err-coded-bit : goal.returns-in-err-coded-bit
-returns-in-err-coded-bit c fine =
+pub returns-in_err-coded_bit-in-Carried : goal.returns-in_err-coded_bit-in-Carried
+returns-in_err-coded_bit-in-Carried c fine =
     let i = c.in-Carried.i in
-    absurd (bit_not_refused c.args.text.now c.args.content i c.in-err-coded-bit.field-0.0 fine
-    (subst (λ z. T (carries z i)) (sym c.in-Carried.is) (eqb_refl i)) c.in-err-coded-bit.ensures)
+    absurd (bit_not_refused c.args.text.now c.args.content i c.in_err-coded_bit-in-Carried.field-0.0 fine
+    (subst (λ z. T (carries z i)) (sym c.in-Carried.is) (eqb_refl i)) c.in_err-coded_bit-in-Carried.ensures)
 
-pub returns-in-err-coded-bit-2 : goal.returns-in-err-coded-bit-2
-returns-in-err-coded-bit-2 c fine =
+pub returns-in_err-coded_bit-in-Inverted : goal.returns-in_err-coded_bit-in-Inverted
+returns-in_err-coded_bit-in-Inverted c fine =
     let i = c.in-Inverted.i in
-    absurd (bit_not_refused c.args.text.now c.args.content i c.in-err-coded-bit-2.field-0.0 fine
-    (subst (λ z. T (carries z i)) (sym c.in-Inverted.is) (eqb_refl i)) c.in-err-coded-bit-2.ensures)
+    absurd (bit_not_refused c.args.text.now c.args.content i c.in_err-coded_bit-in-Inverted.field-0.0 fine
+    (subst (λ z. T (carries z i)) (sym c.in-Inverted.is) (eqb_refl i)) c.in_err-coded_bit-in-Inverted.ensures)
 
-pub returns-in-ok-coded-bit : goal.returns-in-ok-coded-bit
-returns-in-ok-coded-bit c fine =
+pub returns-in_ok-coded_bit-in-Carried : goal.returns-in_ok-coded_bit-in-Carried
+returns-in_ok-coded_bit-in-Carried c fine =
     let text = c.args.text.now in
     let i = c.in-Carried.i in
     ap Ok
     (c.from.ensures
-    ∙ bit_enters text c.args.content i c.in-ok-coded-bit.field-0 fine (subst (λ z. T (carries z i)) (sym c.in-Carried.is) (eqb_refl i)) c.in-ok-coded-bit.ensures
+    ∙ bit_enters text c.args.content i c.in_ok-coded_bit-in-Carried.field-0 fine (subst (λ z. T (carries z i)) (sym c.in-Carried.is) (eqb_refl i)) c.in_ok-coded_bit-in-Carried.ensures
     ∙ ap (evaluated (entering text)) (sym c.in-Carried.is))
 
-pub returns-in-ok-coded-bit-2 : goal.returns-in-ok-coded-bit-2
-returns-in-ok-coded-bit-2 c fine =
+pub returns-in_ok-coded_bit-in-Inverted : goal.returns-in_ok-coded_bit-in-Inverted
+returns-in_ok-coded_bit-in-Inverted c fine =
     let text = c.args.text.now in
     let i = c.in-Inverted.i in
     ap Ok
-    (c.from-in-Inverted.ensures ∙ opposite_of c.in-ok-coded-bit-2.field-0
-    ∙ ap opposite (bit_enters text c.args.content i c.in-ok-coded-bit-2.field-0 fine (subst (λ z. T (carries z i)) (sym c.in-Inverted.is) (eqb_refl i)) c.in-ok-coded-bit-2.ensures)
+    (c.from-in-Inverted.ensures ∙ opposite_of c.in_ok-coded_bit-in-Inverted.field-0
+    ∙ ap opposite (bit_enters text c.args.content i c.in_ok-coded_bit-in-Inverted.field-0 fine (subst (λ z. T (carries z i)) (sym c.in-Inverted.is) (eqb_refl i)) c.in_ok-coded_bit-in-Inverted.ensures)
     ∙ ap (evaluated (entering text)) (sym c.in-Inverted.is))

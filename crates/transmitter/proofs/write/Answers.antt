@@ -3,12 +3,12 @@ use Rattle.refusal.proofs.Front.{filled, filled_more}
 use Rattle.transmitter.proofs.Octets.{octet_at, place_octet, place_not_refused, write_there, all_filled}
 use Rattle.transmitter.proofs.write.Goals as goal
 
-pub returns-in-err-element : goal.returns-in-err-element
-returns-in-err-element g c =
+pub returns-in_err-element : goal.returns-in_err-element
+returns-in_err-element g c =
     let s = c.args.stage.now in
     absurd (place_not_refused (g.S.Stage.meaning s) (g.met.S.Stage.homes s)
-    c.args.text.now c.in-ok-n.n c.in-ok-n.ensures c.loop-place.place c.in-ok-content.field-0
-    c.in-err-element.field-0.0 c.in-ok-content.ensures c.in-err-element.ensures)
+    c.args.text.now c.in_ok-n.n c.in_ok-n.ensures c.loop-place.place c.in_ok-content.field-0
+    c.in_err-element.field-0.0 c.in_ok-content.ensures c.in_err-element.ensures)
 
 pub loop-place-preserved : goal.loop-place-preserved
 loop-place-preserved g c =
@@ -19,9 +19,9 @@ loop-place-preserved g c =
     let within : p < length c.args.out.now = omega arith in
     ap (λ l. set l p x) c.loop-place.invariant
     ∙ filled_more (octet_at m c.args.text.now) p (p + 1) c.args.out.now x refl within
-    (place_octet m (g.met.S.Stage.homes s) c.args.text.now c.in-ok-n.n c.in-ok-n.ensures p
-    c.in-ok-content.field-0 c.in-ok-element.field-0 x c.in-ok-content.ensures
-    c.in-ok-element.ensures c.from.ensures)
+    (place_octet m (g.met.S.Stage.homes s) c.args.text.now c.in_ok-n.n c.in_ok-n.ensures p
+    c.in_ok-content.field-0 c.in_ok-element.field-0 x c.in_ok-content.ensures
+    c.in_ok-element.ensures c.from.ensures)
 
 pub returns : goal.returns
 returns g c =
@@ -29,11 +29,11 @@ returns g c =
     let m = g.S.Stage.meaning s in
     let text = c.args.text.now in
     let out = c.args.out.now in
-    let len = c.in-ok-length.length in
+    let len = c.in_ok-length.length in
     let end : c.loop-place.place ≡ len = omega arith in
     record {
-      answer = write_there m (g.met.S.Stage.homes s) text c.in-ok-n.n c.in-ok-n.ensures len
-          c.in-ok-length.ensures (length out) c.if-out-length.false;
+      answer = write_there m (g.met.S.Stage.homes s) text c.in_ok-n.n c.in_ok-n.ensures len
+          c.in_ok-length.ensures (length out) c.if-out-length.false;
       memory = c.loop-place.invariant ∙ ap (λ z. filled (octet_at m text) z out) end
-          ∙ all_filled m (g.met.S.Stage.homes s) text c.in-ok-n.n c.in-ok-n.ensures len c.in-ok-length.ensures out;
+          ∙ all_filled m (g.met.S.Stage.homes s) text c.in_ok-n.n c.in_ok-n.ensures len c.in_ok-length.ensures out;
     }

@@ -17,7 +17,7 @@ returns-then-greatest c =
     let l = c.args.self.now in
     let g = c.greatest-greatest in
     let e = pair_silent l (ap (λ (x : Float). eq x zero_float) (sym g.ensures) ∙ c.if-greatest.true) in
-    record { is = sym e; promised = subst (Promised (Measured l)) e (promised l c.requires (held g.result l g.type-inv g.ensures)) }
+    record { is = sym e; promised = subst (Promised (Measured l)) e (promised l c.requires (held g.result l g.type_inv g.ensures)) }
 
 loud : (g : Float) (l : Levels) → eq g zero_float ≡ false → g ≡ greatest l → eq (greatest l) zero_float ≡ false
 loud g l n e = ap (λ (x : Float). eq x zero_float) (sym e) ∙ n
@@ -27,14 +27,14 @@ strength-requires c =
     let l = c.args.self.now in
     let g = c.greatest-greatest in
     let e : c.share-first.result ≡ share (first_one l) (first_zero l) (greatest l) = cc in
-    subst (λ (x : Float). T (is_balance x)) (sym e) (first_taken l c.requires (loud g.result l c.if-greatest.false g.ensures) (held g.result l g.type-inv g.ensures))
+    subst (λ (x : Float). T (is_balance x)) (sym e) (first_taken l c.requires (loud g.result l c.if-greatest.false g.ensures) (held g.result l g.type_inv g.ensures))
 
 pub strength-requires-2 : goal.strength-requires-2
 strength-requires-2 c =
     let l = c.args.self.now in
     let g = c.greatest-greatest in
     let e : c.share-second.result ≡ share (second_one l) (second_zero l) (greatest l) = cc in
-    subst (λ (x : Float). T (is_balance x)) (sym e) (second_taken l c.requires (loud g.result l c.if-greatest.false g.ensures) (held g.result l g.type-inv g.ensures))
+    subst (λ (x : Float). T (is_balance x)) (sym e) (second_taken l c.requires (loud g.result l c.if-greatest.false g.ensures) (held g.result l g.type_inv g.ensures))
 
 pub returns : goal.returns
 returns c =
@@ -43,6 +43,6 @@ returns c =
     let a : c.strength.result ≡ strength (share (first_one l) (first_zero l) (greatest l)) = cc in
     let b : c.strength-2.result ≡ strength (share (second_one l) (second_zero l) (greatest l)) = cc in
     let e =
-    pair_of (to_z-of_z w8 c.strength.result (record { sfits = c.strength.type-inv }) ∙ a) (to_z-of_z w8 c.strength-2.result (record { sfits = c.strength-2.type-inv }) ∙ b)
+    pair_of (to_z-of_z w8 c.strength.result (record { sfits = c.strength.type_inv }) ∙ a) (to_z-of_z w8 c.strength-2.result (record { sfits = c.strength-2.type_inv }) ∙ b)
     ∙ sym (pair_loud l (loud g.result l c.if-greatest.false g.ensures)) in
-    record { is = e; promised = subst (Promised (Measured l)) (sym e) (promised l c.requires (held g.result l g.type-inv g.ensures)) }
+    record { is = e; promised = subst (Promised (Measured l)) (sym e) (promised l c.requires (held g.result l g.type_inv g.ensures)) }

@@ -3,4 +3,4 @@ use Rattle.code.proofs.Register.at.Goals as goal
 
 pub returns : goal.returns
 returns c =
-    λ i. c.bit-before.ensures i ∷ c.bit-before-2.ensures i ∷ c.bit-before-3.ensures i ∷ c.bit-before-4.ensures i ∷ c.bit-before-5.ensures i ∷ []
+    λ i. c.bit_before.ensures i ∷ c.bit_before-2.ensures i ∷ c.bit_before-3.ensures i ∷ c.bit_before-4.ensures i ∷ c.bit_before-5.ensures i ∷ []

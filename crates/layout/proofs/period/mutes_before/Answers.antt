@@ -4,4 +4,4 @@ use Rattle.layout.proofs.period.mutes_before.Goals as goal
 
 pub returns : goal.returns
 returns c = let rule = mutes_in_period c.args.spot (search rules) in
-    omega (arith, c.terms-up-to.ensures.value, c.terms-up-to-2.ensures.value, c.terms-up-to-3.ensures.value, c.terms-up-to-4.ensures.value)
+    omega (arith, c.terms_up_to.ensures.value, c.terms_up_to-2.ensures.value, c.terms_up_to-3.ensures.value, c.terms_up_to-4.ensures.value)

@@ -9,20 +9,20 @@ returns-then-index-above g c =
     record {
       answer = c.marker.ensures.answer
           ∙ marker_above (g.L.Stage.meaning lower) (g.U.Stage.meaning upper) (g.L.MarkedStage.markers lower) (g.U.MarkedStage.markers upper)
-          c.args.n c.in-ok-middle.middle c.in-ok-middle.ensures c.in-ok-above.above c.args.index
-          c.in-ok-above.ensures.answer c.if-index-above.true;
-      marked = c.in-ok-marker-count.ensures.marked;
+          c.args.n c.in_ok-middle.middle c.in_ok-middle.ensures c.in_ok-above.above c.args.index
+          c.in_ok-above.ensures.answer c.if-index-above.true;
+      marked = c.in_ok-marker_count.ensures.marked;
     }
 
-pub returns-in-err-marker : goal.returns-in-err-marker
-returns-in-err-marker g c =
+pub returns-in_err-marker : goal.returns-in_err-marker
+returns-in_err-marker g c =
     let lower = c.args.self.now.lower in
     let upper = c.args.self.now.upper in
     absurd (marker_not_refused (g.L.Stage.meaning lower) (g.U.Stage.meaning upper) (g.L.MarkedStage.markers lower) (g.U.MarkedStage.markers upper)
-    c.args.n c.in-ok-middle.middle c.in-ok-middle.ensures c.in-ok-above.above
-    c.in-ok-marker-count.field-0 c.args.index c.in-err-marker.field-0.0
-    c.in-ok-above.ensures.answer c.in-ok-marker-count.ensures.answer
-    c.if-index-above.false c.if-branch.false c.in-err-marker.ensures.answer)
+    c.args.n c.in_ok-middle.middle c.in_ok-middle.ensures c.in_ok-above.above
+    c.in_ok-marker_count.field-0 c.args.index c.in_err-marker.field-0.0
+    c.in_ok-above.ensures.answer c.in_ok-marker_count.ensures.answer
+    c.if-index-above.false c.if-branch.false c.in_err-marker.ensures.answer)
 
 pub returns : goal.returns
 returns g c =
@@ -31,8 +31,8 @@ returns g c =
     record {
       answer = c.raised.ensures
           ∙ marker_below (g.L.Stage.meaning lower) (g.U.Stage.meaning upper) (g.L.MarkedStage.markers lower) (g.U.MarkedStage.markers upper)
-          c.args.n c.in-ok-middle.middle c.in-ok-middle.ensures c.in-ok-above.above c.args.index
-          c.in-ok-marker.field-0 c.in-ok-above.ensures.answer c.in-ok-marker.ensures.answer
-          c.in-ok-marker.ensures.marked c.if-index-above.false;
-      marked = c.in-ok-marker-count.ensures.marked;
+          c.args.n c.in_ok-middle.middle c.in_ok-middle.ensures c.in_ok-above.above c.args.index
+          c.in_ok-marker.field-0 c.in_ok-above.ensures.answer c.in_ok-marker.ensures.answer
+          c.in_ok-marker.ensures.marked c.if-index-above.false;
+      marked = c.in_ok-marker_count.ensures.marked;
     }

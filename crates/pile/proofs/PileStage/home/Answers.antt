@@ -8,5 +8,5 @@ returns g c =
     let upper = c.args.self.now.upper in
     c.home-2.ensures
     ∙ home_through (g.L.Stage.meaning lower) (g.U.Stage.meaning upper) (g.met.L.Stage.homes lower) (g.met.U.Stage.homes upper)
-    c.args.n c.args.element c.in-ok-middle.middle c.in-ok-length.field-0 c.in-ok-home.field-0
-    c.in-ok-middle.ensures c.in-ok-length.ensures c.in-ok-home.ensures
+    c.args.n c.args.element c.in_ok-middle.middle c.in_ok-length.field-0 c.in_ok-home.field-0
+    c.in_ok-middle.ensures c.in_ok-length.ensures c.in_ok-home.ensures

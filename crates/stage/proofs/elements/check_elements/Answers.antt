@@ -9,14 +9,14 @@ use Rattle.stage.specs.Frames.{no_element, no_frames}
 use Rattle.stage.proofs.Frames.{octet_refused, octet_element}
 use Rattle.stage.proofs.elements.check_elements.Goals as goal
 
-pub returns-in-err-try-from : goal.returns-in-err-try-from
-returns-in-err-try-from c =
+pub returns-in_err-try_from : goal.returns-in_err-try_from
+returns-in_err-try_from c =
     let es = c.args.octets.now in
     let i : ℕ = c.loop-octet.octet-index in
     let e : ℕ = get_or es i 0 in
-    let refused = octet_refused e c.in-err-try-from.field-0.0 c.in-err-try-from.ensures in
+    let refused = octet_refused e c.in_err-try_from.field-0.0 c.in_err-try_from.ensures in
     let found = sym c.loop-octet.invariant ∙ at_drop_more (any no_element) es i 0 c.loop-octet-test.true ∙ or_left (no_element e) (any no_element (drop (i + 1) es)) refused.0 in
-    let p = err_from_is_err_and c.from-residual.result c.from-residual.ensures.1 in
+    let p = err_from_is_err_and c.from_residual.result c.from_residual.ensures.1 in
     p.1 ∙ ap Err (p.2 ∙ refused.1) ∙ sym (held (no_frames es) BadElements (Ok tt) (or_right (eqb (length es % 2) 1) (any no_element es) found))
 
 pub loop-octet-preserved : goal.loop-octet-preserved
@@ -24,7 +24,7 @@ loop-octet-preserved c =
     let es = c.args.octets.now in
     let i : ℕ = c.loop-octet.octet-index in
     let rest = any no_element (drop (i + 1) es) in
-    sym (at_drop_more (any no_element) es i 0 c.loop-octet-test.true ∙ ap (λ t. t || rest) (octet_element (get_or es i 0) c.in-ok-try-from.field-0 c.in-ok-try-from.ensures)) ∙ c.loop-octet.invariant
+    sym (at_drop_more (any no_element) es i 0 c.loop-octet-test.true ∙ ap (λ t. t || rest) (octet_element (get_or es i 0) c.in_ok-try_from.field-0 c.in_ok-try_from.ensures)) ∙ c.loop-octet.invariant
 
 pub returns : goal.returns
 returns c =

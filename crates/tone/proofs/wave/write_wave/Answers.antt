@@ -21,8 +21,8 @@ loop-i-init c =
     let out = c.args.out.now in
     let size : ℕ = stored_size (length c.args.samples.now) in
     let header = header_of size in
-    let is = c.copy-from-slice.ensures.after ∙ c.header.ensures in
-    let stands = laid_header size c.copy-from-slice.new.self out is in
+    let is = c.copy_from_slice.ensures.after ∙ c.header.ensures in
+    let stands = laid_header size c.copy_from_slice.new.self out is in
     stands ∙ sym (laid_over header [] out ∙ ap (λ l. laid l out) (append-nil header)) ∙ ap (laid (header ++ [])) (sym stands)
 
 pub loop-i-preserved : goal.loop-i-preserved
@@ -31,10 +31,10 @@ loop-i-preserved c =
     let f = sample_octets c.args.samples.now in
     let header = header_of (stored_size (length c.args.samples.now)) in
     let before = header ++ flat_map f (range_with_len 0 i) in
-    let start = put_mid 0 44 c.args.out.now c.copy-from-slice.new.self in
-    let part = c.copy-from-slice-in-loop-i.new.self in
+    let start = put_mid 0 44 c.args.out.now c.copy_from_slice.new.self in
+    let part = c.copy_from_slice-in-loop-i.new.self in
     let held : to_z w16 (of_z w16 (get_or c.args.samples.now i (pos 0))) ≡ get_or c.args.samples.now i (pos 0) = search rules in
-    let is : part ≡ f i = c.copy-from-slice-in-loop-i.ensures.after ∙ c.octets.ensures ∙ ap (λ z. two_octets (of_z w16 z)) held in
+    let is : part ≡ f i = c.copy_from_slice-in-loop-i.ensures.after ∙ c.octets.ensures ∙ ap (λ z. two_octets (of_z w16 z)) held in
     let long : length before ≡ 44 + 2 * i = length-append header (flat_map f (range_with_len 0 i)) ∙ (λ x. header_length (stored_size (length c.args.samples.now)) x + length-joined f 2 (λ _. refl) i x) in
     let two : 44 + 2 * i + 2 - (44 + 2 * i) ≡ 2 = omega arith in
     (λ x. put_mid (44 + 2 * i) (two x) (c.loop-i.invariant x) part)
@@ -47,13 +47,13 @@ returns c =
     let n : ℕ = length c.args.samples.now in
     let f = sample_octets c.args.samples.now in
     let header = header_of (stored_size n) in
-    let is = c.copy-from-slice.ensures.after ∙ c.header.ensures in
-    let stands = laid_header (stored_size n) c.copy-from-slice.new.self out is in
-    let start = put_mid 0 44 out c.copy-from-slice.new.self in
+    let is = c.copy_from_slice.ensures.after ∙ c.header.ensures in
+    let stands = laid_header (stored_size n) c.copy_from_slice.new.self out is in
+    let start = put_mid 0 44 out c.copy_from_slice.new.self in
     let all : c.loop-i.i ≡ n = omega arith in
     let whole = header ++ flat_map f (range_with_len 0 n) in
-    let counted = passed (past_header n) MemoryTooShort _ c.in-ok-size.size c.in-ok-size.ensures in
-    let size : c.in-ok-size.size ≡ 44 + 2 * n = ok_is counted.1 in
+    let counted = passed (past_header n) MemoryTooShort _ c.in_ok-size.size c.in_ok-size.ensures in
+    let size : c.in_ok-size.size ≡ 44 + 2 * n = ok_is counted.1 in
     let room = le-ltb (length out) (44 + 2 * n) (omega (arith, size)) in
     record {
       answer = counted.1 ∙ sym (past (past_header n) MemoryTooShort _ counted.0 ∙ past (ltb (length out) (44 + 2 * n)) MemoryTooShort (Ok (44 + 2 * n)) room);

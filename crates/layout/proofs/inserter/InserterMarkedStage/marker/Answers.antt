@@ -2,14 +2,14 @@ use Rattle.std.proofs.Common.{rules}
 use Rattle.layout.specs.InserterLaws.{inserter_count, inserter_marked, inserter_marker}
 use Rattle.layout.proofs.inserter.InserterMarkedStage.marker.Goals as goal
 
-pub overflow-mul-result : goal.overflow-mul-result
-overflow-mul-result c = let all = inserter_count c.args.n in search rules
+pub overflow_mul-result : goal.overflow_mul-result
+overflow_mul-result c = let all = inserter_count c.args.n in search rules
 
-pub overflow-add-result : goal.overflow-add-result
-overflow-add-result c = let all = inserter_count c.args.n in search rules
+pub overflow_add-result : goal.overflow_add-result
+overflow_add-result c = let all = inserter_count c.args.n in search rules
 
-pub overflow-add-result-2 : goal.overflow-add-result-2
-overflow-add-result-2 c = let all = inserter_count c.args.n in search rules
+pub overflow_add-result-2 : goal.overflow_add-result-2
+overflow_add-result-2 c = let all = inserter_count c.args.n in search rules
 
 pub returns : goal.returns
 returns c =

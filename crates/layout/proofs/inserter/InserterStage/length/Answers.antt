@@ -4,7 +4,7 @@ use Rattle.layout.proofs.inserter.InserterStage.length.Goals as goal
 
 pub returns : goal.returns
 returns c =
-    let ends = size_from c.args.n c.carrier-of.result (search rules) c.carrier-of.ensures.carries c.carrier-of.ensures.order in
+    let ends = size_from c.args.n c.carrier_of.result (search rules) c.carrier_of.ensures.carries c.carrier_of.ensures.order in
     search rules
 
 pub returns-then-n-eq0 : goal.returns-then-n-eq0

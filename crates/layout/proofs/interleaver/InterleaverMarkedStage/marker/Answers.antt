@@ -2,8 +2,8 @@ use Rattle.std.proofs.Common.{rules}
 use Rattle.layout.specs.InterleaverLaws.{interleaver_count, interleaver_marked, interleaver_marker}
 use Rattle.layout.proofs.interleaver.InterleaverMarkedStage.marker.Goals as goal
 
-pub returns-then-index-ge-PREAMBLE-BITS : goal.returns-then-index-ge-PREAMBLE-BITS
-returns-then-index-ge-PREAMBLE-BITS c =
+pub returns-then-index-ge-PREAMBLE_BITS : goal.returns-then-index-ge-PREAMBLE_BITS
+returns-then-index-ge-PREAMBLE_BITS c =
     let octets = c.args.self.now.preamble in
     let all = interleaver_count octets c.args.n in
     record { answer = search rules; marked = interleaver_marked octets c.args.n }

@@ -10,5 +10,5 @@ pub returns : goal.returns
 returns c =
     let n = c.args.n in
     let i = c.args.element in
-    let t = taken (leb n 10000) (passed (not (leb n 10000)) _ _ tt c.in-ok-check-count.ensures).0 in
+    let t = taken (leb n 10000) (passed (not (leb n 10000)) _ _ tt c.in_ok-check_count.ensures).0 in
     home_answered wire wire_homes n i i t c.if-element-n.false (c.if-element-n.false, eqb_refl i)
