@@ -46,8 +46,8 @@ fn pair_costs(a0: u16, a1: u16, b0: u16, b1: u16) -> [u32; 4]
 // The costs of the sixteen combinations of the coded bits of a step, the first counting 1.
 fn label_costs<S: SoftBits>(source: &S, step: usize) -> [u32; 16]
     requires { step < 2 ^ 60 }
-    ensures priced { (q : ℕ) → q < 16 → slice_index result q ≡ label_cost (cost source.now) step q }
-    ensures bounded { Bounded (cost source.now) step 65535 → Bounded (cost source.now) (step + 1) 65535 }
+    ensures priced { (q : ℕ) → q < 16 → slice_index result q ≡ label_cost (S.SoftBits.cost source.now) step q }
+    ensures bounded { Bounded (S.SoftBits.cost source.now) step 65535 → Bounded (S.SoftBits.cost source.now) (step + 1) 65535 }
 {
     let (a0, a1) = source.costs(4 * step);
     let (b0, b1) = source.costs(4 * step + 1);
@@ -141,9 +141,9 @@ fn into_zero_state(metrics: &[u32; 16]) -> u32
 // state.
 fn forward<S: SoftBits>(source: &S, work: &mut [u16]) -> u32
     requires { length work.old ≤ 1924 }
-    ensures survivor { Survivor (cost source.now) (length work.old) (traced work.new (length work.old) 0) }
-    ensures metric { result ≡ path_cost (cost source.now) (length work.old) (traced work.new (length work.old) 0) }
-    ensures bounded { Bounded (cost source.now) (length work.old) 65535 }
+    ensures survivor { Survivor (S.SoftBits.cost source.now) (length work.old) (traced work.new (length work.old) 0) }
+    ensures metric { result ≡ path_cost (S.SoftBits.cost source.now) (length work.old) (traced work.new (length work.old) 0) }
+    ensures bounded { Bounded (S.SoftBits.cost source.now) (length work.old) 65535 }
 {
     let mut metrics = [UNREACHED; 16];
     metrics[0] = 0;
@@ -200,8 +200,8 @@ fn trace_back(work: &[u16], text: &mut [u8])
 // Both passes, for as many octets as `text` has places.
 fn both_passes<S: SoftBits>(source: &S, text: &mut [u8], work: &mut [u16]) -> u32
     requires { (length text.old ≤ 240) × (length work.old ≡ 8 * length text.old + 4) }
-    ensures nearest { text.new ≡ nearest (coding_cost (cost source.now)) (length text.old) }
-    ensures value { result ≡ coding_cost (cost source.now) text.new }
+    ensures nearest { text.new ≡ nearest (coding_cost (S.SoftBits.cost source.now)) (length text.old) }
+    ensures value { result ≡ coding_cost (S.SoftBits.cost source.now) text.new }
 {
     let metric = forward(source, work);
     trace_back(work, text);
@@ -225,10 +225,10 @@ pub fn nearest_text<S: SoftBits>(
     text: &mut [u8],
     work: &mut [u16],
 ) -> Result<u32, Refusal>
-    ensures answer { result ≡ nearest_answer m (length text.old) (length work.old) (least_cost (cost source.now) m) }
-    ensures memory { text.new ≡ after result (nearest (coding_cost (cost source.now)) m) text.old }
+    ensures answer { result ≡ nearest_answer m (length text.old) (length work.old) (least_cost (S.SoftBits.cost source.now) m) }
+    ensures memory { text.new ≡ after result (nearest (coding_cost (S.SoftBits.cost source.now)) m) text.old }
     ensures working { UsesFirst (steps_of m) (is_ok result) work.old work.new }
-    ensures nearest { IfOk result (NearestFound (cost source.now) m (take m text.new)) }
+    ensures nearest { IfOk result (NearestFound (S.SoftBits.cost source.now) m (take m text.new)) }
 {
     check_length(m)?;
     let steps = steps_for(m);

@@ -9,22 +9,22 @@ use Rattle.fit.proofs.earliest_best.Goals.{then-fit-greatest, else-fit-greatest}
 pub loop-start-init : goal.loop-start-init
 loop-start-init g c =
     let f : ℕ → ℤ = fit (g.V.Values.standing c.args.values.now) (g.M.MarkedStage.markers c.args.stage.now c.args.n) in
-    let was = c.in-ok-greatest.was in
-    let is : c.in-ok-greatest.greatest ≡ f 0 = cc in
-    let fits : SFits w32 c.in-ok-greatest.greatest = search rules in
+    let was = c.in_ok-greatest.was in
+    let is : c.in_ok-greatest.greatest ≡ f 0 = cc in
+    let fits : SFits w32 c.in_ok-greatest.greatest = search rules in
     (best_none f, to_z-of_z w32 _ fits ∙ is)
 
 pub loop-start-preserved : goal.loop-start-preserved
 loop-start-preserved g c =
     let f : ℕ → ℤ = fit (g.V.Values.standing c.args.values.now) (g.M.MarkedStage.markers c.args.stage.now c.args.n) in
-    let was = c.in-ok-fit.was in
-    let is : c.in-ok-fit.fit ≡ f c.loop-start.start = cc in
-    let fits : SFits w32 c.in-ok-fit.fit = search rules in
+    let was = c.in_ok-fit.was in
+    let is : c.in_ok-fit.fit ≡ f c.loop-start.start = cc in
+    let fits : SFits w32 c.in_ok-fit.fit = search rules in
     let read = to_z-of_z w32 _ fits ∙ is in
     let inv = c.loop-start.invariant in
     elim c.if-fit-greatest.branch [
-      | then-fit-greatest w ↦ turn_takes f c.loop-start.start c.loop-start.best _ _ _ _ inv.0 inv.1 read w.if-fit-greatest.true w.best_is w.greatest-is
-      | else-fit-greatest w ↦ turn_keeps f c.loop-start.start c.loop-start.best _ _ _ _ inv.0 inv.1 read w.if-fit-greatest.false w.best_is w.greatest-is
+      | then-fit-greatest w ↦ turn_takes f c.loop-start.start c.loop-start.best _ _ _ _ inv.0 inv.1 read w.if-fit-greatest.true w.best-is w.greatest-is
+      | else-fit-greatest w ↦ turn_keeps f c.loop-start.start c.loop-start.best _ _ _ _ inv.0 inv.1 read w.if-fit-greatest.false w.best-is w.greatest-is
     ]
 
 pub returns : goal.returns

@@ -13,8 +13,8 @@ loop-index-preserved g c =
     let inv = c.loop-index.invariant in
     let v : List ℤ = g.V.Values.standing c.args.values.now in
     let marks = g.M.MarkedStage.markers c.args.stage.now in
-    let x = c.in-ok-marker.marker in
-    let known = marker_known (g.M.Stage.meaning c.args.stage.now) marks n i x c.in-ok-marker.ensures.answer in
+    let x = c.in_ok-marker.marker in
+    let known = marker_known (g.M.Stage.meaning c.args.stage.now) marks n i x c.in_ok-marker.ensures.answer in
     let fits : SFits w8 c.value.result = search rules in
     let agrees : c.agreement-sum.result ≡ agreement v c.args.start x =
     c.agreement-sum.ensures.value ∙ ap (λ z. cond x.bit z (neg_ℤ z)) (to_z-of_z w8 _ fits ∙ c.value.ensures) in

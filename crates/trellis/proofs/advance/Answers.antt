@@ -7,12 +7,12 @@ pub loop-j-preserved : goal.loop-j-preserved
 loop-j-preserved c =
     let inv = c.loop-j.invariant in
     let j = c.loop-j.j in
-    let t = turn c.args.metrics.now c.args.costs.now c.loop-j.next c.loop-j.low c.loop-j.high j c.branch-label-label.result (omega arith) c.branch-label-label.ensures.value
-    inv.0 inv.1 inv.2 inv.3 inv.4 c.cheaper-to-zero.result.0 c.cheaper-to-one.result.0
-    c.cheaper-to-zero.result.1 c.cheaper-to-one.result.1 c.cheaper-to-zero.ensures.metric c.cheaper-to-zero.ensures.second
-    c.cheaper-to-one.ensures.metric c.cheaper-to-one.ensures.second in (
-      acc_below c.loop-j.low j c.cheaper-to-zero.result.1 (omega arith) inv.0,
-      acc_below c.loop-j.high j c.cheaper-to-one.result.1 (omega arith) inv.1,
+    let t = turn c.args.metrics.now c.args.costs.now c.loop-j.next c.loop-j.low c.loop-j.high j c.branch_label-label.result (omega arith) c.branch_label-label.ensures.value
+    inv.0 inv.1 inv.2 inv.3 inv.4 c.cheaper-to_zero.result.0 c.cheaper-to_one.result.0
+    c.cheaper-to_zero.result.1 c.cheaper-to_one.result.1 c.cheaper-to_zero.ensures.metric c.cheaper-to_zero.ensures.second
+    c.cheaper-to_one.ensures.metric c.cheaper-to_one.ensures.second in (
+      acc_below c.loop-j.low j c.cheaper-to_zero.result.1 (omega arith) inv.0,
+      acc_below c.loop-j.high j c.cheaper-to_one.result.1 (omega arith) inv.1,
       simp length-set inv.2,
       t.0,
       t.1,

@@ -15,8 +15,8 @@ advance-next-requires g c =
     let k = c.loop-step.step in (
       metric_small cost k c.loop-step.invariant.1 (omega arith) c.loop-step.work c.loop-step.metrics c.loop-step.invariant.0,
       λ q h.
-          let e = c.label-costs-costs.ensures.priced q h in
-          let s = label_cost_small cost k (c.label-costs-costs.ensures.bounded c.loop-step.invariant.1) q in
+          let e = c.label_costs-costs.ensures.priced q h in
+          let s = label_cost_small cost k (c.label_costs-costs.ensures.bounded c.loop-step.invariant.1) q in
           omega arith,
     )
 
@@ -27,10 +27,10 @@ loop-step-preserved g c =
     let work = c.loop-step.work in
     let decisions = c.advance-next.result.decisions in (
       subst (λ n. Survivors cost n (set work k decisions) c.advance-next.result.metrics) (sym (add-one k))
-          (step cost k work (set work k decisions) c.loop-step.metrics c.label-costs-costs.result c.advance-next.result.metrics decisions
-          c.loop-step.invariant.0 c.label-costs-costs.ensures.priced
+          (step cost k work (set work k decisions) c.loop-step.metrics c.label_costs-costs.result c.advance-next.result.metrics decisions
+          c.loop-step.invariant.0 c.label_costs-costs.ensures.priced
           (λ j h. get_or-set_other work k j decisions 0 (omega arith)) (get_or-set_same work k decisions 0 (omega arith)) c.advance-next.ensures),
-      c.label-costs-costs.ensures.bounded c.loop-step.invariant.1,
+      c.label_costs-costs.ensures.bounded c.loop-step.invariant.1,
     )
 
 pub returns : goal.returns
@@ -38,4 +38,4 @@ returns g c =
     let cost = g.S.SoftBits.cost c.args.source.now in
     let e : c.loop-step.step ≡ length c.args.work.now = omega arith in
     let r = subst (λ n. Survivors cost n c.loop-step.work c.loop-step.metrics) e c.loop-step.invariant.0 0 (lit< tt) in
-    record { survivor = r.0; metric = c.into-zero-state.ensures ∙ r.1; bounded = subst (λ n. Bounded cost n 65535) e c.loop-step.invariant.1 }
+    record { survivor = r.0; metric = c.into_zero_state.ensures ∙ r.1; bounded = subst (λ n. Bounded cost n 65535) e c.loop-step.invariant.1 }

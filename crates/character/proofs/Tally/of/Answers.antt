@@ -5,10 +5,10 @@ use Rattle.character.proofs.Tally.of.Goals as goal
 
 pub with-tally-requires : goal.with-tally-requires
 with-tally-requires c =
-    let s = c.into-iter-placed-iterator.result in
-    let b = c.into-iter-placed-iterator.ensures.into-iter-gives in
+    let s = c.into_iter-placed-iterator.result in
+    let b = c.into_iter-placed-iterator.ensures.into_iter_gives in
     let e : s.text.now ≡ c.args.text.now = ap (λ u. u.text.now) b ∙ c.new-placed-items.ensures.text in
-    subst TallyRoom (sym c.loop-placed.invariant.2) (room c.args.text.now c.loop-placed.yielded s c.loop-placed.placed-iterator c.next.new.self c.in-Some.placed e c.loop-placed.yielded-by c.in-Some.ensures.steps (omega arith))
+    subst TallyRoom (sym c.loop-placed.invariant.2) (room c.args.text.now c.loop-placed.yielded s c.loop-placed.placed-iterator c.next.new.self c.in-Some.placed e c.loop-placed.yielded_by c.in-Some.ensures.steps (omega arith))
 
 pub loop-placed-preserved : goal.loop-placed-preserved
 loop-placed-preserved c =
@@ -16,9 +16,9 @@ loop-placed-preserved c =
 
 pub returns : goal.returns
 returns c =
-    let s = c.into-iter-placed-iterator.result in
-    let b = c.into-iter-placed-iterator.ensures.into-iter-gives in
+    let s = c.into_iter-placed-iterator.result in
+    let b = c.into_iter-placed-iterator.ensures.into_iter_gives in
     let e : s.text.now ≡ c.args.text.now = ap (λ u. u.text.now) b ∙ c.new-placed-items.ensures.text in
     let z : s.place ≡ 0 = ap (λ u. u.place) b ∙ c.new-placed-items.ensures.place in
-    let r = all_items c.args.text.now c.loop-placed.yielded s e z (c.next.new.self, (c.loop-placed.placed-iterator, c.loop-placed.yielded-by, c.in-None.ensures.steps)) in
+    let r = all_items c.args.text.now c.loop-placed.yielded s e z (c.next.new.self, (c.loop-placed.placed-iterator, c.loop-placed.yielded_by, c.in-None.ensures.steps)) in
     record { items = (c.loop-placed.yielded, record { are = r; only = λ ys q. only c.args.text.now c.loop-placed.yielded ys r q }, c.loop-placed.invariant.2); enquiry = r.enquiries ∙ ap (λ t. ltb 0 t.enquiries) (sym c.loop-placed.invariant.2) }

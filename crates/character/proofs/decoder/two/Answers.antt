@@ -6,11 +6,11 @@ use Rattle.character.proofs.decoder.two.Goals as goal
 pub returns-then-octets-lt2 : goal.returns-then-octets-lt2
 returns-then-octets-lt2 c = no_char c.args.octets.now (λ w. omega (arith, w.lead (omega arith)))
 
-pub returns-then-not-is-tail : goal.returns-then-not-is-tail
-returns-then-not-is-tail c =
-    no_char c.args.octets.now (λ w. not_from_Decides _ c.is-tail.ensures c.if-not-is-tail.true (two_tail (get_or c.args.octets.now 0 0) _ (w.lead (omega arith)).3))
+pub returns-then-not-is_tail : goal.returns-then-not-is_tail
+returns-then-not-is_tail c =
+    no_char c.args.octets.now (λ w. not_from_Decides _ c.is_tail.ensures c.if-not-is_tail.true (two_tail (get_or c.args.octets.now 0 0) _ (w.lead (omega arith)).3))
 
 pub returns : goal.returns
 returns c =
-    let t = c.is-tail.ensures.0 c.if-not-is-tail.false in
-    subst (Begins c.args.octets.now) (sym c.scalar-value.ensures) (of_two c.args.octets.now (omega arith) (omega arith) (omega arith) t)
+    let t = c.is_tail.ensures.0 c.if-not-is_tail.false in
+    subst (Begins c.args.octets.now) (sym c.scalar_value.ensures) (of_two c.args.octets.now (omega arith) (omega arith) (omega arith) t)

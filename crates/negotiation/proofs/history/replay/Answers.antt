@@ -1,7 +1,8 @@
 use Rattle.std.proofs.Common.{◌≡◌, ◌-◌, ltb, [], length, take, Ok, sym, refl, ap, ◌∙◌, arith, length-take-le}
 use Rattle.std.proofs.lemmas.Bool.{lt-ltb, le-ltb}
 use Rattle.refusal.proofs.Checks.{past, held}
-use Rattle.refusal.proofs.Front.{laid, laid_more}
+use Rattle.refusal.specs.Answer.{laid}
+use Rattle.refusal.proofs.Front.{laid_more}
 use Rattle.std.proofs.lemmas.List.FromFn.{length-map-range_with_len}
 use Rattle.negotiation.specs.History.{entry_at}
 use Rattle.negotiation.specs.Moves.{empty_slots}
@@ -10,8 +11,8 @@ use Rattle.negotiation.proofs.Ran.{dues_law}
 use Rattle.negotiation.proofs.Kept.{empty_front}
 use Rattle.negotiation.proofs.history.replay.Goals as goal
 
-pub returns-then-empty-slots-count : goal.returns-then-empty-slots-count
-returns-then-empty-slots-count c = record {
+pub returns-then-empty_slots-count : goal.returns-then-empty_slots-count
+returns-then-empty_slots-count c = record {
   answer = sym (held (ltb (empty_slots c.args.slots.now) (length c.args.calls.now)) _ _ (lt-ltb _ _ (omega (arith, c.empty_slots.ensures.value))));
   log = refl;
   slots = refl;

@@ -9,8 +9,8 @@ use Rattle.negotiation.proofs.history.run.Goals as goal
 pub loop-k-init : goal.loop-k-init
 loop-k-init c = (ran_none c.args.calls.now c.open-line.result.state c.args.slots.now c.open-line.ensures c.requires.empty, refl)
 
-pub make-call-answer-requires : goal.make-call-answer-requires
-make-call-answer-requires c =
+pub make_call-answer-requires : goal.make_call-answer-requires
+make_call-answer-requires c =
     let l = c.loop-k in
     let below : l.k < length l.slots = omega (arith, l.auto.slots, c.requires.slots, c.loop-k-test.true) in
     (below, slot_empty c.args.calls.now l.k l.line.state l.slots l.invariant.0 below)
@@ -19,7 +19,7 @@ pub loop-k-preserved : goal.loop-k-preserved
 loop-k-preserved c =
     let l = c.loop-k in
     let calls = c.args.calls.now in
-    let made = c.make-call-answer in
+    let made = c.make_call-answer in
     let below : l.k < length l.slots = omega (arith, l.auto.slots, c.requires.slots, c.loop-k-test.true) in
     let one = entry_more calls l.k l.line.state l.slots l.invariant.0 below c.loop-k-test.true made.result c.state.result made.ensures.value (c.state.ensures ∙ made.ensures.state) in (
       ran_more calls l.k l.line.state l.slots l.invariant.0 below c.loop-k-test.true made.new.line.state made.new.slots made.ensures.state made.ensures.slots,
