@@ -81,10 +81,12 @@ erased_follows before after place n within memory count start same accepted =
 -- a burst was found
 pub found_follows : (before after : Receiver) (pile : Meaning) (markers : ℕ → List Marker) (m : ℕ) (best : ℕ × ℤ) → after.values ≡ before.values → after.count ≡ before.count → after.start ≡ best.0 → find_answer (standing (held before)) pile markers m ≡ Ok best → Follows before (finds pile markers m) after
 found_follows before after pile markers m best values count start accepted =
+    let memory : memory_of after ≡ memory_of before = ap (λ v. v.now) values in
+    let stand' : take after.count (memory_of after) ≡ take before.count (memory_of before) = rw (memory, count) refl in
     follows before (finds pile markers m) after
-    (rw (accepted, values, count, start) refl)
-    (rw (values, count) (laid_again (memory_of before) before.count (omega (arith, before.within))))
-    (ap (λ v. length v.now) values)
+    (rw accepted (ap (λ v. record { values = v; start = after.start }) stand' ∙ ap (λ s. record { values = take before.count (memory_of before); start = s }) start))
+    (memory ∙ laid_again (memory_of before) before.count (omega (arith, before.within)) ∙ ap (λ v. laid v (memory_of before)) (sym stand'))
+    (ap length memory)
     (ap (λ x. x.ghost_name) values)
 
 -- an octet that reads 128 is the one that is no value

@@ -25,15 +25,15 @@ returns c =
     let inv = c.loop-i.invariant in
     record { memory = copy_all c.args.self.now.values.now c.args.heard.now _ c.args.self.now.count c.loop-i.i (omega arith) inv.0; count = refl; start = inv.2; same = inv.3 }
 
-pub invariant-of-self : goal.invariant-of-self
-invariant-of-self c =
+pub invariant_of-self : goal.invariant_of-self
+invariant_of-self c =
     let m = c.loop-i.self.values.now in
     let count = c.loop-i.invariant.1 in
     let kept : take c.loop-i.self.count (set m (c.args.self.now.count + c.loop-i.i) _) ≡ take c.loop-i.self.count m = take-set-le c.loop-i.self.count m (c.args.self.now.count + c.loop-i.i) _ (omega arith) in
-    (search rules, (ap (any out_of_range) kept ∙ c.loop-i.self.sound, tt))
+    record { within = search rules; sound = ap (any out_of_range) kept ∙ c.loop-i.self.sound }
 
-pub invariant-of-self-2 : goal.invariant-of-self-2
-invariant-of-self-2 c =
+pub invariant_of-self-2 : goal.invariant_of-self-2
+invariant_of-self-2 c =
     let r = c.args.self.now in
     let heard = c.args.heard.now in
     let inv = c.loop-i.invariant in
@@ -41,4 +41,4 @@ invariant-of-self-2 c =
     let all : c.loop-i.self.values.now ≡ written (memory_of r) r.count heard = copy_all (memory_of r) heard _ r.count c.loop-i.i (omega arith) inv.0 in
     let taken : take (r.count + length heard) c.loop-i.self.values.now ≡ take r.count (memory_of r) ++ heard = ap (take (r.count + length heard)) all ∙ take_written (memory_of r) heard r.count fits in
     let long : length c.loop-i.self.values.now ≡ length (memory_of r) = ap length all ∙ length-written (memory_of r) heard r.count fits in
-    (omega (arith, c.requires.fits), (ap (any out_of_range) taken ∙ none_append out_of_range (take r.count (memory_of r)) heard r.sound c.requires.good, tt))
+    record { within = omega (arith, c.requires.fits); sound = ap (any out_of_range) taken ∙ none_append out_of_range (take r.count (memory_of r)) heard r.sound c.requires.good }

@@ -20,6 +20,6 @@ returns c =
     let inv = c.loop-i.invariant in
     record { memory = erase_all c.args.self.now.values.now _ c.args.place c.args.n c.loop-i.i (omega arith) inv.0; count = inv.1; start = inv.2; same = inv.3 }
 
-pub invariant-of-self : goal.invariant-of-self
-invariant-of-self c =
-    (search rules, (none_take_set out_of_range c.loop-i.self.count (c.args.place + c.loop-i.i) c.loop-i.self.values.now _ c.loop-i.self.sound refl, tt))
+pub invariant_of-self : goal.invariant_of-self
+invariant_of-self c =
+    record { within = search rules; sound = none_take_set out_of_range c.loop-i.self.count (c.args.place + c.loop-i.i) c.loop-i.self.values.now _ c.loop-i.self.sound refl }
