@@ -4,7 +4,7 @@ ghost use Rattle.refusal.specs.Counting.{count};
 ghost use Rattle.layout.specs.Pattern.{taken};
 ghost use Rattle.layout.specs.Interleaver.{scrambled, in_preamble, interleaver_size, interleaver_at, interleaver_meaning, interleaver_markers};
 ghost use Rattle.layout.specs.InterleaverLaws.{interleaver_homes};
-ghost use Rattle.std.proofs.Common.{rules};
+ghost use Rattle.std.proofs.Common.{refl};
 
 use crate::pattern;
 use refusal::Refusal;
@@ -69,7 +69,7 @@ impl Stage for Interleaver {
 
     ghost meaning = { λ s. interleaver_meaning s.preamble };
 
-    ghost whole = { Prim.search rules };
+    ghost whole = { λ s. refl };
 
     ghost homes = { λ s. interleaver_homes s.preamble };
 

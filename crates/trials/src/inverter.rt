@@ -3,7 +3,7 @@ ghost use Rattle.trials.specs.Inverter.{inverter, inverter_markers};
 ghost use Rattle.std.specs.Prelude.{◌+◌};
 ghost use Rattle.stage.proofs.Placed.{placed_homes};
 ghost use Rattle.trials.specs.InverterLaws.{placed};
-ghost use Rattle.std.proofs.Common.{rules};
+ghost use Rattle.std.proofs.Common.{refl};
 
 use refusal::Refusal;
 use stage::{Content, MarkedStage, Marker, Stage};
@@ -25,7 +25,7 @@ impl Stage for Inverter {
 
     ghost meaning = { λ s. inverter s.front };
 
-    ghost whole = { Prim.search rules };
+    ghost whole = { λ s. refl };
 
     ghost homes = { λ s. placed_homes (inverter s.front) (λ i. i + 1) (placed s.front) };
 
