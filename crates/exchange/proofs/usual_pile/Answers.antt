@@ -4,7 +4,7 @@ use Rattle.exchange.proofs.usual_pile.Goals as goal
 pub returns : goal.returns
 returns c =
     record {
-      meaning = c.standard-pile.ensures.meaning;
-      markers = c.standard-pile.ensures.markers;
+      meaning = c.standard_pile.ensures.meaning;
+      markers = c.standard_pile.ensures.markers;
       worked = worked_examples;
     }

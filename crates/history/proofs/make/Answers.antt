@@ -11,7 +11,7 @@ returns-in-Find g c =
     let f = as_request g.M.Stage.meaning g.M.MarkedStage.markers g.S.Stage.meaning in
     let r = c.args.receiver.now in
     record {
-      answer = subst (λ (call : Call g.row.M.Denot g.row.S.Denot). as_reply c.of-found.result ≡ reply (room r) (held r) (f call)) (sym c.in-Find.is) (c.of-found.ensures ∙ ap (answered (λ best. found best.0 best.1)) c.find.ensures.answer);
+      answer = subst (λ (call : Call g.row.M.Denot g.row.S.Denot). as_reply c.of_found.result ≡ reply (room r) (held r) (f call)) (sym c.in-Find.is) (c.of_found.ensures ∙ ap (answered (λ best. found best.0 best.1)) c.find.ensures.answer);
       after = subst (λ (call : Call g.row.M.Denot g.row.S.Denot). Follows r (f call) c.find.new.self) (sym c.in-Find.is) c.find.ensures.after;
     }
 

@@ -8,12 +8,12 @@ use Rattle.roundtrip.specs.RoundTrip.{strength_of}
 use Rattle.roundtrip.proofs.Hearing.{one_accepted, one_more}
 use Rattle.roundtrip.proofs.hear_elements.Goals as goal
 
-pub returns-in-err-hear : goal.returns-in-err-hear
-returns-in-err-hear c =
+pub returns-in_err-hear : goal.returns-in_err-hear
+returns-in_err-hear c =
     let r = c.loop-i.receiver in
     let ok = one_accepted c.args.receiver.now r c.args.octets.now c.loop-i.i c.loop-i-test.true c.requires.fits c.loop-i.invariant in
     let fits : SFits w8 c.strength.result = search rules in
-    let refused = c.in-err-hear.ensures.answer ∙ ap (λ x. hear_answer (room r) (held r).values (x ∷ [])) (to_z-of_z w8 _ fits ∙ c.strength.ensures) ∙ ok in
+    let refused = c.in_err-hear.ensures.answer ∙ ap (λ x. hear_answer (room r) (held r).values (x ∷ [])) (to_z-of_z w8 _ fits ∙ c.strength.ensures) ∙ ok in
     let z : ◌≡◌ {A = ℕ} 0 1 = cc in
     absurd (omega arith)
 
@@ -22,7 +22,7 @@ loop-i-preserved c =
     let r = c.loop-i.receiver in
     let fits : SFits w8 c.strength.result = search rules in
     one_more c.args.receiver.now r c.args.octets.now c.loop-i.i c.loop-i-test.true c.requires.fits c.loop-i.invariant c.hear.new.self
-    (subst (λ x. Follows r (hears (x ∷ [])) c.hear.new.self) (to_z-of_z w8 _ fits ∙ c.strength.ensures) c.in-ok-hear.ensures.after)
+    (subst (λ x. Follows r (hears (x ∷ [])) c.hear.new.self) (to_z-of_z w8 _ fits ∙ c.strength.ensures) c.in_ok-hear.ensures.after)
 
 pub returns : goal.returns
 returns c =

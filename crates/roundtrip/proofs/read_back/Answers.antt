@@ -10,10 +10,10 @@ use Rattle.roundtrip.proofs.Hearing.{strengths}
 use Rattle.roundtrip.proofs.Back.{at_most, long_burst, accepted_back, reads_zero, reads_sent}
 use Rattle.roundtrip.proofs.read_back.Goals as goal
 
-pub hear-elements-requires : goal.hear-elements-requires
-hear-elements-requires g c =
+pub hear_elements-requires : goal.hear_elements-requires
+hear_elements-requires g c =
     let pile = g.S.Stage.meaning c.args.pile.now in
-    let most = at_most pile (g.met.S.Stage.homes c.args.pile.now) c.args.sent.now c.in-ok-n.n c.in-ok-length.length c.in-ok-n.ensures c.in-ok-length.ensures in
+    let most = at_most pile (g.met.S.Stage.homes c.args.pile.now) c.args.sent.now c.in_ok-n.n c.in_ok-length.length c.in_ok-n.ensures c.in_ok-length.ensures in
     let long : length (memory_of c.open-receiver.result) ≡ length c.args.values.now = ap length c.open-receiver.ensures.memory in
     record { empty = c.open-receiver.ensures.state; fits = simp length-take (omega arith) }
 
@@ -22,18 +22,18 @@ returns g c =
     let pile = g.S.Stage.meaning c.args.pile.now in
     let homes = g.met.S.Stage.homes c.args.pile.now in
     let sent : List ℕ = c.args.sent.now in
-    let n = c.in-ok-n.n in
-    let len = c.in-ok-length.length in
-    let counted = c.in-ok-n.ensures in
-    let measured = c.in-ok-length.ensures in
+    let n = c.in_ok-n.n in
+    let len = c.in_ok-length.length in
+    let counted = c.in_ok-n.ensures in
+    let measured = c.in_ok-length.ensures in
     let elements = c.args.elements.now in
     let text = c.args.text.now in
     let work = c.args.work.now in
     let values : List ℤ = c.args.values.now in
     let b = burst pile sent in
-    let r = c.hear-elements.new.receiver in
-    let heard = c.in-ok-hear-elements.ensures in
-    let wrote = c.in-ok-write.ensures in
+    let r = c.hear_elements.new.receiver in
+    let heard = c.in_ok-hear_elements.ensures in
+    let wrote = c.in_ok-write.ensures in
     let els = c.write.new.out in
     let long : length (map octet_of b) ≡ len - 0 = length-map b octet_of ∙ long_burst pile homes sent n len counted measured ∙ omega arith in
     let part : take (len - 0) els ≡ map octet_of b = ap (take (len - 0)) wrote.memory ∙ take_at (map octet_of b) (drop (length (map octet_of b)) elements) (len - 0) long in

@@ -5,32 +5,32 @@ use Rattle.values_file.proofs.Sizes.{length_values_file}
 use Rattle.exchange.proofs.Made.{handed_on, same_values, values_fit, values_is, values_past}
 use Rattle.exchange.proofs.outgoing.values_of.Goals as goal
 
-pub returns-in-err-size : goal.returns-in-err-size
-returns-in-err-size c =
+pub returns-in_err-size : goal.returns-in_err-size
+returns-in_err-size c =
     let m : ℕ = c.args.m in
     let es = c.args.elements.now in
-    let e = c.in-err-size.field-0.0 in
-    let p = err_from_is_err_and c.from-residual.result c.from-residual.ensures.1 in
-    rw (p.1, p.2) (same_values e m es (values_size es) (values_file m es) c.in-err-size.ensures)
+    let e = c.in_err-size.field-0.0 in
+    let p = err_from_is_err_and c.from_residual.result c.from_residual.ensures.1 in
+    rw (p.1, p.2) (same_values e m es (values_size es) (values_file m es) c.in_err-size.ensures)
 
-pub returns-in-err-file : goal.returns-in-err-file
-returns-in-err-file c =
-    let p = err_from_is_err_and c.from-residual-in-err-file.result c.from-residual-in-err-file.ensures.1 in
+pub returns-in_err-file : goal.returns-in_err-file
+returns-in_err-file c =
+    let p = err_from_is_err_and c.from_residual-in_err-file.result c.from_residual-in_err-file.ensures.1 in
     rw (p.1, p.2) tt
 
-pub returns-in-err-write-values : goal.returns-in-err-write-values
-returns-in-err-write-values c =
+pub returns-in_err-write_values : goal.returns-in_err-write_values
+returns-in_err-write_values c =
     absurd
-    (values_fit c.args.m c.args.elements.now c.in-ok-size.size c.in-ok-size.ensures c.in-err-write-values.field-0.0 _
-    (omega (arith, c.in-ok-file.ensures.len)) c.in-err-write-values.ensures.answer)
+    (values_fit c.args.m c.args.elements.now c.in_ok-size.size c.in_ok-size.ensures c.in_err-write_values.field-0.0 _
+    (omega (arith, c.in_ok-file.ensures.len)) c.in_err-write_values.ensures.answer)
 
 pub returns : goal.returns
 returns c =
     let m : ℕ = c.args.m in
     let es = c.args.elements.now in
-    let size : ℕ = c.in-ok-size.size in
-    let sized = c.in-ok-size.ensures in
-    let is = handed_on c.in-ok-file.file (values_file m es) c.deref-mut.result.now c.write-values.new.out size
-    c.in-ok-file.ensures.len c.deref-mut.ensures.len (length_values_file m es ∙ sym (values_is m es size sized))
-    c.in-ok-write-values.ensures.memory in
+    let size : ℕ = c.in_ok-size.size in
+    let sized = c.in_ok-size.ensures in
+    let is = handed_on c.in_ok-file.file (values_file m es) c.deref_mut.result.now c.write_values.new.out size
+    c.in_ok-file.ensures.len c.deref_mut.ensures.len (length_values_file m es ∙ sym (values_is m es size sized))
+    c.in_ok-write_values.ensures.memory in
     ap Ok is ∙ sym (values_past m es size sized (Ok (values_file m es)))
