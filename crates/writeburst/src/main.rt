@@ -10,6 +10,7 @@ use report::Report;
 use request::{Request, request_of};
 use std::env;
 use std::io::{Read, Write};
+use std::process::ExitCode;
 use stop::{Stop, USAGE};
 
 // What the arguments ask for.
@@ -61,12 +62,12 @@ fn run(rt: &HostRuntime) -> Result<(), Stop> {
     }
 }
 
-fn main(rt: HostRuntime) -> Result<(), Stop> {
+fn main(rt: HostRuntime) -> ExitCode {
     match run(&rt) {
-        Ok(()) => Ok(()),
+        Ok(()) => ExitCode::SUCCESS,
         Err(stop) => {
             let _ = eprintln!(rt; "{}", &stop);
-            Err(stop)
+            ExitCode::FAILURE
         }
     }
 }

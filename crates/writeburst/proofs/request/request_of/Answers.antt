@@ -28,8 +28,8 @@ pub returns-then-words-eq1 : goal.returns-then-words-eq1
 returns-then-words-eq1 c =
     let one : length c.args.words.now ≡ 1 = omega arith in
     let is = single string_bytes c.args.words.now c.index-words-0.result one c.index-words-0.is in
-    let words = is ∙ ap (λ b. b ∷ []) (sym c.as-str.ensures.value) in
-    subst (λ l. Asks l c.from-word.result) (sym words) c.from-word.ensures
+    let words = is ∙ ap (λ b. b ∷ []) (sym c.as_str.ensures.value) in
+    subst (λ l. Asks l c.from_word.result) (sym words) c.from_word.ensures
 
 pub returns-else-words-eq1 : goal.returns-else-words-eq1
 returns-else-words-eq1 c request is =
