@@ -38,7 +38,7 @@ fn sent(heap: Global) -> anyhow::Result<Vec<u8>> {
 fn accepted<T: Drop>(res: Result<T, Refusal>) -> anyhow::Result<T> {
     match res {
         Ok(value) => Ok(value),
-        Err(refusal) => Err(refusal.sentence().into()),
+        Err(refusal) => Err(anyhow!("{}", refusal.sentence())),
     }
 }
 
