@@ -165,7 +165,7 @@ fn replays(rt: HostRuntime) -> Result<(), Fail> {
 #[test]
 fn octets(rt: HostRuntime) {
     assert_eq!(rt; Wanted::Nothing.octets().len(), 0);
-    assert_eq!(rt; Wanted::EnquiryBurst.octets(), &[0x05]);
-    assert_eq!(rt; Acknowledgement::Idle.octets(b"GA"), &[0x16]);
-    assert_eq!(rt; Acknowledgement::Text.octets(b"GA"), b"GA");
+    assert_eq!(rt; Wanted::EnquiryBurst.octets(), [0x05].as_slice());
+    assert_eq!(rt; Acknowledgement::Idle.octets(b"GA"), [0x16].as_slice());
+    assert_eq!(rt; Acknowledgement::Text.octets(b"GA"), b"GA".as_slice());
 }
