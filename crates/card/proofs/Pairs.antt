@@ -1,5 +1,5 @@
 -- The pair of four levels: within range, and exact where one tone sounds alone, where two sides are even, and where they are exchanged.
-use Rattle.std.proofs.Common.{◌≡◌, ℕ, ◌-◌, ◌*◌, ◌≤◌, Bool, true, false, cond, not, ◌&&◌, ◌||◌, T, ℤ, pos, negsuc, neg_ℤ, Ok, sym, refl, ap, ◌∙◌, subst, inl, inr, true≢false, le_trans, le_of_eq, le_refl, eq-zero-or-pos, le_antisymm, mul-pos, zero-mul, not-le_of_lt, arith, eqb→eq, ltb→lt, leb→le, w8, SFits, ltb-true, eq-eqb}
+use Rattle.std.proofs.Common.{◌≡◌, ℕ, ◌*◌, ◌≤◌, Bool, true, false, cond, not, ◌&&◌, ◌||◌, T, ℤ, pos, negsuc, neg_ℤ, Ok, sym, refl, ap, ◌∙◌, subst, inl, inr, true≢false, le_trans, le_of_eq, le_refl, eq-zero-or-pos, le_antisymm, mul-pos, zero-mul, not-le_of_lt, arith, eqb→eq, ltb→lt, leb→le, w8, SFits, ltb-true, eq-eqb}
 use lib.Ieee.{Float, nan, inf, fin, binary32, up, down, sub, div, mul, neg, round, to_signed, le, lt, eq, fits, is_nan, of_bits}
 use lib.Ieee.Fits.{and_l, and_r, and_i}
 use lib.Ieee.Bits.{is_true}

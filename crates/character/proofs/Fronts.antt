@@ -1,7 +1,7 @@
 -- The item at the front of octets: what was found there is the item of the definition.
-use Rattle.std.proofs.Common.{◌≡◌, ℕ, ◌+◌, ◌-◌, ◌*◌, ◌/◌, ◌%◌, ◌<◌, ◌≤◌, Bool, true, false, cond, not, ◌&&◌, eqb, ltb, ◌⊎◌, List, [], ◌∷◌, ◌++◌, length, get_or, drop, Some, None, IsUtf8, Option, sym, refl, ap, ◌∙◌, subst, inl, inr, ⊎_elim, append-nil, add-zero, arith, lit<, length-append, length-drop, get_or-drop}
+use Rattle.std.proofs.Common.{◌≡◌, ℕ, ◌+◌, ◌/◌, ◌<◌, ◌≤◌, Bool, true, false, cond, not, eqb, ltb, List, [], ◌∷◌, ◌++◌, length, get_or, drop, Some, None, IsUtf8, Option, sym, refl, ap, ◌∙◌, subst, ⊎_elim, append-nil, add-zero, arith, lit<, length-append, length-drop, get_or-drop}
 use lib.Utf8.{scalar, encode}
-use Rattle.std.proofs.lemmas.Bool.{lt-ltb, le-ltb, cond-true, cond-false, and_from, and_parts, eq-eqb, eqb-true, eqb-false, ne_eqb, ltb-true, ltb-false, or_from, cond_both, cases_Bool, false≢true}
+use Rattle.std.proofs.lemmas.Bool.{lt-ltb, le-ltb, cond-true, cond-false, and_from, and_parts, eq-eqb, eqb-true, eqb-false, ne_eqb, ltb-true, ltb-false, or_from, cond_both, cases_Bool}
 use Rattle.std.proofs.iter.FirstChar.{no_text}
 use Rattle.std.proofs.lemmas.Str.{encode_ascii, IsUtf8-past_char, length-encode, len_utf8_bounds}
 use Rattle.std.specs.List.{AllByRecursion as All}

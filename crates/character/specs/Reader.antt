@@ -1,5 +1,5 @@
 -- The item at a place of a text's octets, the items of a whole text, and the text without its control characters.
-use Rattle.std.specs.Prelude.{◌≡◌, ℕ, ◌+◌, ◌*◌, ◌%◌, ◌<◌, Bool, true, false, cond, not, ◌&&◌, ◌||◌, List, [], ◌∷◌, ◌++◌, length, get_or, take, drop, Some, None, Ok, IsUtf8, sum_by, filter, Option, Result, ◌==◌, nat_lt, slice_index, slice_index_or}
+use Rattle.std.specs.Prelude.{◌≡◌, ℕ, ◌+◌, ◌*◌, ◌%◌, ◌<◌, Bool, true, false, cond, not, ◌&&◌, ◌||◌, List, [], ◌∷◌, length, get_or, take, drop, Some, None, Ok, IsUtf8, sum_by, filter, Option, Result, ◌==◌, nat_lt, slice_index, slice_index_or}
 use Rattle.std.proofs.Math.Utf8.{scalar, encode}
 use Rattle.std.specs.List.{flat_map}
 use Rattle.std.specs.Str.{StartsWithNoChar}

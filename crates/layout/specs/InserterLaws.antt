@@ -1,12 +1,11 @@
 -- What the inserter owes: where each element stands, by four rows of mutes and whole periods, and nowhere else.
-use Rattle.std.specs.Prelude.{◌≡◌, ℕ, zero, suc, ◌+◌, ◌-◌, ◌*◌, ◌/◌, ◌%◌, ◌<◌, ◌≤◌, min, Bool, true, false, cond, not, ◌&&◌, ◌||◌, T, leb, List, [], ◌∷◌, length, ◌==◌, nat_eq, nat_le, nat_lt, slice_index_or, refl}
-use Rattle.std.proofs.Common.{sym, ap, subst, ◌∙◌, inl, inr, mul-suc, mod-eq_of_lt, arith, leb→le}
+use Rattle.std.specs.Prelude.{◌≡◌, ℕ, zero, suc, ◌+◌, ◌-◌, ◌*◌, ◌/◌, ◌%◌, ◌<◌, ◌≤◌, min, Bool, true, false, cond, not, ◌&&◌, ◌||◌, T, leb, length, ◌==◌, nat_eq, nat_le, nat_lt, slice_index_or, refl}
+use Rattle.std.proofs.Common.{sym, ap, ◌∙◌, inl, inr, mul-suc, mod-eq_of_lt, arith, leb→le}
 use Rattle.std.proofs.Math.Nat.{mod-mod, div-eq_of_lt}
 use Rattle.std.proofs.Math.Dec.{eqb→eq, eqb_refl}
 use Rattle.std.proofs.lemmas.Nat.{div-mul-add, mod-mul-add}
-use Rattle.std.proofs.lemmas.Bool.{cases_Bool, cases_lt, lt-ltb, le-ltb, ltb-true, ltb-false, eq-eqb, and_parts, and_right, not-true, leb-true, le-leb, lt-leb, eqb-true}
-use Rattle.stage.specs.declared.Content.{Content}
-use Rattle.stage.specs.declared.Content.TheVariants.{Carried, Fixed, Mute}
+use Rattle.std.proofs.lemmas.Bool.{cases_Bool, cases_lt, lt-ltb, le-ltb, ltb-true, and_parts, and_right, not-true, leb-true, le-leb, lt-leb, eqb-true}
+use Rattle.stage.specs.declared.Content.TheVariants.{Carried, Fixed}
 use Rattle.stage.specs.Meaning.{Homes, Stands, carries, home_of}
 use Rattle.stage.specs.Marked.{Marked, no_marker}
 use Rattle.stage.proofs.MarkersAt.{count_yes, count_no, count_most, count_grows, count_below, length-markers, marker_is, markers_hold}

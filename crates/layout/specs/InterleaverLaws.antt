@@ -1,6 +1,6 @@
 -- What the interleaver owes: element i stands at i + 16 (i mod 8) and nowhere else, and its preamble lies as its tables say.
 use Rattle.std.specs.Prelude.{◌≡◌, ℕ, ◌+◌, ◌-◌, ◌*◌, ◌/◌, ◌%◌, ◌<◌, ◌≤◌, Bool, true, false, cond, not, ◌||◌, T, List, [], ◌∷◌, length, ◌==◌, nat_lt, slice_index, slice_index_or, refl}
-use Rattle.std.proofs.Common.{sym, ap, subst, ◌∙◌, inl, inr, arith, leb→le, eqb→eq}
+use Rattle.std.proofs.Common.{ap, subst, ◌∙◌, inl, inr, arith, leb→le, eqb→eq}
 use Rattle.std.proofs.lemmas.Nat.{div-mul-add, mod-mul-add}
 use Rattle.std.proofs.lemmas.Bool.{cases_Bool, lt-ltb, le-ltb, ltb-true, ltb-false, eq-eqb}
 use Rattle.stage.specs.declared.Content.{Content}

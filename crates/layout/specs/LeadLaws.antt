@@ -1,5 +1,5 @@
 -- What the lead owes: element i stands at i + 8 and nowhere else.
-use Rattle.std.specs.Prelude.{◌≡◌, ℕ, ◌+◌, ◌-◌, ◌<◌, ◌≤◌, Bool, true, false, cond, T, length, ◌==◌, slice_index_or}
+use Rattle.std.specs.Prelude.{◌≡◌, ℕ, ◌+◌, ◌-◌, ◌<◌, ◌≤◌, true, cond, T, length, ◌==◌, slice_index_or}
 use Rattle.std.proofs.Common.{ap, subst, ◌∙◌, inl, inr, arith, leb→le, eqb→eq}
 use Rattle.std.proofs.lemmas.Bool.{cases_lt, lt-ltb, le-ltb, eq-eqb}
 use Rattle.refusal.proofs.Places.{true_holds}

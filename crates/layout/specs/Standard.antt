@@ -1,9 +1,5 @@
 -- The standard pile: what leaves the inserter enters the interleaver, and what leaves that enters the lead.
 use Rattle.std.specs.Prelude.{ℕ, List}
-use Rattle.pile.specs.declared.Pile.{Pile}
-use Rattle.pile.specs.contracts.Pile as pile-type
-use Rattle.pile.specs.contracts.PileStage.TheImpl as of-pile
-use Rattle.pile.specs.contracts.PileMarkedStage.TheImpl as of-marked-pile
 use Rattle.stage.specs.declared.Marker.{Marker}
 use Rattle.stage.specs.Meaning.{Meaning}
 use Rattle.stage.specs.Piled.{piled, piled_markers}

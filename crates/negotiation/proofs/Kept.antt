@@ -3,10 +3,9 @@ use Rattle.std.proofs.Common.{◌≡◌, ℕ, zero, suc, ◌+◌, ◌<◌, ◌�
 use Rattle.std.specs.List.{prefix_len}
 use Rattle.std.proofs.lemmas.List.{get_or_append_left, get_or_push, get_or_past, length_push, set_past}
 use Rattle.std.proofs.lemmas.List.Sums.{sum_by-cons, sum_by_push, sum_by-set}
-use Rattle.std.proofs.lemmas.Bool.{eq-eqb, ne_eqb, eqb-true, cases_lt, cases_eq, cases_order, cases_Bool, cond-true, cond-false, and_right, or_right, false≢true}
+use Rattle.std.proofs.lemmas.Bool.{eq-eqb, ne_eqb, eqb-true, cases_lt, cases_eq, cases_Bool, and_right, or_right}
 use Rattle.character.specs.Reader.{holds_enquiry}
 use Rattle.negotiation.specs.declared.owing.Due.{Due}
-use Rattle.negotiation.specs.declared.owing.Acknowledgement.{Acknowledgement}
 use Rattle.negotiation.specs.declared.history.Call.{Call}
 use Rattle.negotiation.specs.declared.history.Call.TheVariants.{Tick, Hear, Settle}
 use Rattle.negotiation.specs.declared.history.Answer.{Answer}

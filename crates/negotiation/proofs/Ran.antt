@@ -1,7 +1,6 @@
 -- A loop that makes a list of calls: the state, the slots and the log after the first k of them.
-use Rattle.std.proofs.Common.{◌≡◌, ℕ, zero, suc, ◌+◌, ◌<◌, ◌≤◌, false, List, [], ◌∷◌, ◌++◌, map, length, get_or, take, replicate, Some, None, fold, Option, sym, refl, ap, ◌∙◌, subst, add-one, arith, length-set, take_all}
+use Rattle.std.proofs.Common.{◌≡◌, ℕ, zero, suc, ◌+◌, ◌<◌, ◌≤◌, false, List, [], ◌∷◌, ◌++◌, length, get_or, take, replicate, None, Option, sym, refl, ap, ◌∙◌, subst, add-one, arith, length-set, take_all}
 use lib.ListN.{length-replicate}
-use Rattle.std.specs.List.{range_with_len}
 use Rattle.std.proofs.lemmas.List.FromFn.{fill_by_all}
 use Rattle.std.proofs.lemmas.List.{length_push}
 use Rattle.std.proofs.lemmas.List.Sums.{fold_more}

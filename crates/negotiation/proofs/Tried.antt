@@ -1,14 +1,14 @@
 -- The state of a line after a history is where its transitions lead, and the law of tries.
 use Rattle.std.proofs.Common.{◌≡◌, ℕ, ◌+◌, ◌<◌, ◌≤◌, Bool, true, false, cond, not, ◌&&◌, ◌||◌, ltb, List, [], ◌∷◌, ◌++◌, fold, count_by, sym, refl, ap, ◌∙◌, inl, inr, add-zero, arith}
 use Rattle.std.proofs.lemmas.List.Sums.{sum_by_push, fold_push}
-use Rattle.std.proofs.lemmas.Bool.{ltb-true, ltb-false, lt-ltb, le-ltb, cases_lt, cond-false, false≢true, true≢false, and_parts, or_parts, or_right, not-true}
+use Rattle.std.proofs.lemmas.Bool.{ltb-true, ltb-false, lt-ltb, le-ltb, cases_lt, cond-false, false≢true, true≢false, and_parts, or_parts, not-true}
 use Rattle.negotiation.specs.declared.State.{State}
 use Rattle.negotiation.specs.declared.State.TheVariants.{New, Asking, Known, Clear}
 use Rattle.negotiation.specs.declared.owing.Acknowledgement.{Acknowledgement}
 use Rattle.negotiation.specs.declared.history.Call.{Call}
 use Rattle.negotiation.specs.declared.history.Call.TheVariants.{Tick, Hear, Settle}
 use Rattle.negotiation.specs.declared.history.Answer.{Answer}
-use Rattle.negotiation.specs.declared.history.Answer.TheVariants.{Wants, Heard, Settled, NothingDue}
+use Rattle.negotiation.specs.declared.history.Answer.TheVariants.{Wants, Settled, NothingDue}
 use Rattle.negotiation.specs.Transitions.{ticked, starts_try, wanted, is_known}
 use Rattle.negotiation.specs.Sent.{settled}
 use Rattle.negotiation.specs.History.{History, milliseconds, text_waits, is_burst, asks, was_heard, text_waited, tries, since_enquiry, outstanding, line_state, try_starts, answer_after, happened, Lasted, Tries}

@@ -1,5 +1,5 @@
 -- One call on a line and the slots of its dues: what the private steps of a replay promise each other.
-use Rattle.std.specs.Prelude.{ℕ, Bool, cond, not, List, length, is_some, Some, None, Ok, Option, Result, nat_lt, slice_index_or, slice_set}
+use Rattle.std.specs.Prelude.{ℕ, cond, not, List, length, is_some, None, Ok, Option, Result, nat_lt, slice_index_or, slice_set}
 use Rattle.std.specs.List.{prefix_len}
 use Rattle.refusal.specs.Answer.{refused_when}
 use Rattle.refusal.specs.declared.Refusal.{Refusal}

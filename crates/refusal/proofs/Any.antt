@@ -1,5 +1,5 @@
 -- Lists of which no element passes a test.
-use Rattle.std.proofs.Common.{◌≡◌, ℕ, zero, suc, ◌+◌, ◌<◌, Bool, true, false, cond, ◌||◌, List, [], ◌∷◌, ◌++◌, length, get_or, take, drop, set, replicate, sym, refl, ap, ◌∙◌, arith}
+use Rattle.std.proofs.Common.{◌≡◌, ℕ, zero, suc, Bool, true, false, ◌||◌, List, [], ◌∷◌, ◌++◌, get_or, take, drop, set, replicate, refl, ap, ◌∙◌, arith}
 use Rattle.refusal.specs.Counting.{any}
 
 -- neither of two tests holds

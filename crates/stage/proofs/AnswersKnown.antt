@@ -1,14 +1,12 @@
 -- What an accepted answer says of a stage, and what a stage answers where it does not refuse.
-use Rattle.std.proofs.Common.{◌≡◌, ℕ, ◌<◌, ◌≤◌, Bool, true, false, cond, not, ◌&&◌, T, leb, Ok, Err, Result, sym, refl, ap, ◌∙◌, subst, arith, le-leb, leb-false, leb-true}
+use Rattle.std.proofs.Common.{◌≡◌, ℕ, ◌<◌, Bool, true, false, not, ◌&&◌, T, leb, Ok, Err, Result, sym, ap, ◌∙◌, subst, arith, leb-false}
 use lib.Dec.{eqb_refl}
 use borrow.Author.Tests.{lt-leb}
 use Rattle.refusal.specs.declared.Refusal.{Refusal}
-use Rattle.refusal.specs.Answer.{refused_when}
 use Rattle.refusal.proofs.Checks.{passed}
 use Rattle.refusal.proofs.Places.{is_true}
 use Rattle.stage.specs.declared.Content.{Content}
-use Rattle.stage.specs.declared.Content.TheVariants.{Carried, Inverted, Fixed, Mute}
-use Rattle.stage.specs.Elements.{inverse}
+use Rattle.stage.specs.declared.Content.TheVariants.{Carried, Inverted}
 use Rattle.stage.specs.Meaning.{Meaning, carries, Stands, Homes, home_of, length_answer, content_answer, home_answer}
 use Rattle.stage.specs.Piled.{over, piled}
 use Rattle.stage.specs.Homes.{parts_take, home_is, home_holds, stands_above, piled_homes}

@@ -1,5 +1,5 @@
 -- What leaves a pile: what leaves the upper when what leaves the lower enters it.
-use Rattle.std.proofs.Common.{◌≡◌, ℕ, ◌+◌, ◌<◌, Bool, true, false, not, T, List, map, length, get_or, sym, refl, ap, ◌∙◌, subst, arith}
+use Rattle.std.proofs.Common.{◌≡◌, ℕ, ◌<◌, Bool, true, false, not, T, List, map, length, get_or, sym, refl, ap, ◌∙◌, arith}
 use lib.Dec.{eqb_refl}
 use Rattle.std.specs.List.{range_with_len}
 use Rattle.std.proofs.lemmas.List.FromFn.{length-map-range_with_len, get_or-map-range_with_len}
@@ -9,8 +9,8 @@ use Rattle.stage.specs.declared.Content.TheVariants.{Carried, Inverted, Fixed, M
 use Rattle.stage.specs.declared.Element.{Element}
 use Rattle.stage.specs.declared.Element.TheVariants.{Zero, One, Mute}
 use Rattle.stage.specs.Elements.{element_of, opposite, inverse, evaluated, leaving}
-use Rattle.stage.specs.Meaning.{Meaning, carries, Stands, Homes}
-use Rattle.stage.specs.Piled.{over, piled, Enters}
+use Rattle.stage.specs.Meaning.{Meaning, carries, Homes}
+use Rattle.stage.specs.Piled.{over, Enters}
 use Rattle.stage.specs.Homes.{parts_take}
 
 opposite_twice : (e : Element) → opposite (opposite e) ≡ e

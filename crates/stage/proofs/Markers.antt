@@ -1,7 +1,7 @@
 -- Markers: no stage has more than it has places, and a pile's markers are apart and tell its content.
-use Rattle.std.proofs.Common.{◌≡◌, ℕ, zero, suc, ◌+◌, ◌-◌, ◌<◌, ◌≤◌, Bool, true, false, cond, not, T, ltb, leb, ◌⊎◌, List, ◌++◌, map, length, get_or, Ok, Err, Result, sym, refl, ap, ◌∙◌, subst, inl, inr, ⊎_elim, arith, eqb→eq, leb-false}
+use Rattle.std.proofs.Common.{◌≡◌, ℕ, ◌+◌, ◌-◌, ◌<◌, ◌≤◌, Bool, not, T, leb, List, map, length, get_or, Ok, Err, sym, refl, ap, ◌∙◌, subst, ⊎_elim, arith, eqb→eq, leb-false}
 use Rattle.std.proofs.lemmas.List.{length-append, length-map, get_or_append_left, get_or-append_right, get_or-map}
-use Rattle.std.proofs.lemmas.Bool.{cases_lt, cond_both, ltb-true, ltb-false}
+use Rattle.std.proofs.lemmas.Bool.{cases_lt}
 use borrow.Author.Tests.{lt-leb}
 use Rattle.refusal.specs.declared.Refusal.{Refusal}
 use Rattle.refusal.proofs.Checks.{passed}
@@ -11,7 +11,7 @@ use Rattle.stage.specs.declared.Content.TheVariants.{Carried, Inverted, Fixed, M
 use Rattle.stage.specs.declared.Marker.{Marker}
 use Rattle.stage.specs.Elements.{inverse}
 use Rattle.stage.specs.Marked.{no_marker, MarkersHold, Marked, count_answer, marker_answer}
-use Rattle.stage.specs.Meaning.{Meaning, carries, Stands, Homes, home_of, length_answer}
+use Rattle.stage.specs.Meaning.{Meaning, carries, Stands, Homes, length_answer}
 use Rattle.stage.specs.Piled.{over, piled, bit_through, raised, raised_answer, piled_markers}
 use Rattle.stage.specs.Homes.{parts_take, home_holds}
 use Rattle.stage.proofs.AnswersKnown.{taken, ok_is, length_known, pile_takes}

@@ -1,6 +1,6 @@
 -- Homes: the place where an element stands is the one that the rule finds, and a pile's homes fit if its parts' do.
-use Rattle.std.specs.Prelude.{◌≡◌, ℕ, zero, suc, ◌+◌, ◌<◌, ◌≤◌, Bool, true, false, cond, not, ◌&&◌, T, refl}
-use Rattle.std.proofs.Common.{sym, ap, subst, ◌∙◌, arith, eqb→eq, leb→le}
+use Rattle.std.specs.Prelude.{◌≡◌, ℕ, ◌<◌, Bool, true, false, ◌&&◌, T, refl}
+use Rattle.std.proofs.Common.{sym, subst, ◌∙◌, arith, eqb→eq, leb→le}
 use Rattle.std.proofs.Math.Dec.{eqb_refl}
 use Rattle.refusal.proofs.Places.{first_passes}
 use Rattle.stage.specs.declared.Content.{Content}

@@ -1,9 +1,8 @@
 -- What a marked stage gives besides: its markers.
-use Rattle.std.specs.Prelude.{◌≡◌, ℕ, ◌<◌, Bool, false, not, T, List, length, get_or, Ok, Result, nat_le, slice_index_or}
+use Rattle.std.specs.Prelude.{◌≡◌, ℕ, ◌<◌, false, not, T, List, length, get_or, Ok, Result, nat_le, slice_index_or}
 use Rattle.refusal.specs.declared.Refusal.{Refusal}
 use Rattle.refusal.specs.declared.Refusal.TheVariants.{NoSuchPlace, CountNotTaken}
 use Rattle.refusal.specs.Answer.{refused_when}
-use Rattle.stage.specs.declared.Content.{Content}
 use Rattle.stage.specs.declared.Content.TheVariants.{Fixed}
 use Rattle.stage.specs.declared.Marker.{Marker}
 use Rattle.stage.specs.Meaning.{Meaning}

@@ -1,5 +1,5 @@
 -- The octets of a burst, place by place.
-use Rattle.std.proofs.Common.{◌≡◌, ℕ, ◌+◌, ◌<◌, ◌≤◌, Bool, true, false, not, T, eqb, ltb, leb, List, ◌++◌, map, length, get_or, drop, Ok, Err, Result, sym, refl, ap, ◌∙◌, subst, arith}
+use Rattle.std.proofs.Common.{◌≡◌, ℕ, ◌<◌, ◌≤◌, Bool, true, false, not, T, eqb, ltb, leb, List, ◌++◌, map, length, get_or, drop, Ok, Err, Result, sym, refl, ap, ◌∙◌, subst, arith}
 use Rattle.std.specs.List.{range_with_len}
 use Rattle.std.proofs.lemmas.List.FromFn.{length-map-range_with_len, get_or-map-range_with_len, fill_by_all}
 use Rattle.std.proofs.lemmas.List.{length-map, get_or-map}
@@ -11,10 +11,9 @@ use Rattle.refusal.proofs.Checks.{past, text_past, text_length}
 use Rattle.refusal.proofs.Front.{filled}
 use Rattle.code.specs.Coder.{bit, coded, coded_bits, coded_count, coded_bit_answer}
 use Rattle.stage.specs.declared.Content.{Content}
-use Rattle.stage.specs.declared.Content.TheVariants.{Carried, Inverted, Fixed, Mute as Silence}
 use Rattle.stage.specs.declared.Element.{Element}
 use Rattle.stage.specs.declared.Element.TheVariants.{Mute}
-use Rattle.stage.specs.Elements.{octet_of, element_of, opposite, evaluated, leaving}
+use Rattle.stage.specs.Elements.{octet_of, element_of, opposite, evaluated}
 use Rattle.stage.specs.Meaning.{Meaning, Homes, carries, length_answer, content_answer}
 use Rattle.refusal.proofs.Places.{is_true}
 use Rattle.stage.proofs.AnswersKnown.{length_known, content_known, ok_is}

@@ -1,4 +1,4 @@
-use Rattle.std.proofs.Common.{◌≡◌, length, sym, ap, ◌∙◌, arith, take_all}
+use Rattle.std.proofs.Common.{length, sym, ap, ◌∙◌, arith, take_all}
 use Rattle.character.specs.Reader.{without_controls}
 use Rattle.character.proofs.Controls.{control_more, text_more_length, fits_length}
 use Rattle.character.proofs.plain_length.Goals as goal

@@ -1,4 +1,4 @@
-use Rattle.std.proofs.Common.{◌≡◌, ◌+◌, ◌<◌, ◌≤◌, ◌++◌, length, get_or, take, drop, set, Ok, sym, refl, ap, ◌∙◌, arith, take_all}
+use Rattle.std.proofs.Common.{◌≡◌, ◌+◌, ◌<◌, ◌++◌, length, get_or, take, drop, set, Ok, sym, refl, ap, ◌∙◌, arith, take_all}
 use Rattle.character.specs.Reader.{without_controls}
 use Rattle.character.proofs.Controls.{control_more, text_more_length, front_least, written_more, refused, accepted}
 use Rattle.character.proofs.remove_controls.Goals as goal

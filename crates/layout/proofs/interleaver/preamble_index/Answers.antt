@@ -1,5 +1,4 @@
-use Rattle.std.proofs.Common.{arith, rules}
-use Rattle.std.proofs.lemmas.Bool.{ltb-true}
+use Rattle.std.proofs.Common.{rules}
 use Rattle.layout.specs.InterleaverLaws.{preamble_index}
 use Rattle.layout.proofs.interleaver.preamble_index.Goals as goal
 

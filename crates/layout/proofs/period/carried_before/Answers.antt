@@ -1,4 +1,4 @@
-use Rattle.std.proofs.Common.{◌%◌, arith, rules}
+use Rattle.std.proofs.Common.{◌%◌, arith}
 use Rattle.layout.specs.Inserter.{is_mute}
 use Rattle.stage.proofs.MarkersAt.{count_most}
 use Rattle.layout.specs.InserterLaws.{carriers_rule}

@@ -1,4 +1,4 @@
-use Rattle.std.proofs.Common.{ℕ, ◌+◌, ◌*◌, ◌/◌, ◌%◌, arith}
+use Rattle.std.proofs.Common.{◌+◌, ◌*◌, ◌/◌, ◌%◌, arith}
 use Rattle.layout.specs.InserterLaws.{spot_rule}
 use Rattle.layout.proofs.period.carrier_of.Goals as goal
 

@@ -1,4 +1,4 @@
-use Rattle.std.proofs.Common.{◌≡◌, cond, is_some, None, sym, ap, arith}
+use Rattle.std.proofs.Common.{cond, is_some, None, sym, ap, arith}
 use Rattle.std.proofs.lemmas.List.{get_or_past, set_past}
 use Rattle.negotiation.specs.declared.history.Answer.TheVariants.{Settled, NothingDue}
 use Rattle.negotiation.specs.Sent.{settled}

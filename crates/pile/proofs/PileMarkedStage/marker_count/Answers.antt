@@ -1,4 +1,4 @@
-use Rattle.std.proofs.Common.{◌+◌, ◌≤◌, arith, rules}
+use Rattle.std.proofs.Common.{◌+◌, ◌≤◌, rules}
 use Rattle.stage.proofs.Markers.{counts_fit, count_sum, marked_sum}
 use Rattle.pile.proofs.PileMarkedStage.marker_count.Goals as goal
 

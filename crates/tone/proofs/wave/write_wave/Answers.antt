@@ -1,4 +1,4 @@
-use Rattle.std.proofs.Common.{◌≡◌, ℕ, ◌+◌, ◌-◌, ◌*◌, ◌^◌, ltb, leb, List, [], ◌++◌, length, get_or, pos, Ok, sym, refl, ap, ◌∙◌, append-nil, arith, w16, to_z, of_z, rules}
+use Rattle.std.proofs.Common.{◌≡◌, ℕ, ◌+◌, ◌-◌, ◌*◌, ltb, List, [], ◌++◌, length, get_or, pos, Ok, sym, refl, ap, ◌∙◌, append-nil, arith, w16, to_z, of_z, rules}
 use borrow.Rule.Slice.PartMut.{put_mid}
 use Rattle.std.specs.List.{range_with_len, flat_map}
 use Rattle.std.proofs.lemmas.List.{length-append}

@@ -1,4 +1,4 @@
-use Rattle.std.proofs.Common.{◌-◌, rules}
+use Rattle.std.proofs.Common.{rules}
 use Rattle.layout.specs.InserterLaws.{size_from, size_none}
 use Rattle.layout.proofs.inserter.InserterStage.length.Goals as goal
 
