@@ -1,12 +1,12 @@
 -- What a call returns that sizes a Vec, lends it and hands it on.
-use Rattle.std.proofs.Common.{◌≡◌, ℕ, ◌+◌, ◌*◌, ◌/◌, ◌^◌, ◌≤◌, Bool, true, false, eqb, ltb, List, [], ◌++◌, length, drop, ℤ, Ok, Err, vec_len, Result, sym, refl, ap, ◌∙◌, ⊎_elim, append-nil, arith}
+use Rattle.std.proofs.Common.{◌≡◌, ℕ, ◌+◌, ◌*◌, ◌/◌, ◌^◌, ◌≤◌, Bool, true, false, eqb, ltb, List, ◌++◌, length, ℤ, Ok, Err, vec_len, Result, sym, ap, ◌∙◌, ⊎_elim, append-nil, arith}
 use Rattle.std.specs.Vec.{with_items}
 use Rattle.std.specs.Global.{Vec}
 use Rattle.std.proofs.lemmas.List.{drop_all, with_items_is}
 use Rattle.std.proofs.lemmas.Bool.{cases_Bool, le-leb, le-ltb, ltb-true}
 use Rattle.refusal.specs.declared.Refusal.{Refusal}
 use Rattle.refusal.specs.declared.Refusal.TheVariants.{EmptyText, TextTooLong, BadElements, BadLine, MemoryTooShort}
-use Rattle.refusal.specs.Answer.{refused_when, text_checked, laid, after}
+use Rattle.refusal.specs.Answer.{refused_when, text_checked, laid}
 use Rattle.refusal.proofs.Checks.{held, passed, past, text_past}
 use Rattle.stage.specs.Frames.{no_frames}
 use Rattle.stage.proofs.AnswersKnown.{ok_is}

@@ -1,14 +1,12 @@
 -- A text that passed the checks on its length: nothing on its way out refuses it.
-use Rattle.std.proofs.Common.{◌≡◌, ℕ, ◌+◌, ◌*◌, ◌/◌, ◌^◌, ◌≤◌, Bool, true, false, not, T, ltb, leb, List, map, length, Ok, Err, Result, sym, refl, ap, ◌∙◌, subst, arith}
+use Rattle.std.proofs.Common.{◌≡◌, ℕ, ◌+◌, ◌*◌, ◌/◌, ◌^◌, ◌≤◌, false, not, T, ltb, List, length, Ok, Err, Result, sym, ap, ◌∙◌, subst, arith}
 use Rattle.std.proofs.lemmas.Bool.{le-ltb, lt-leb, not_from_true}
 use Rattle.refusal.specs.declared.Refusal.{Refusal}
 use Rattle.refusal.specs.declared.Refusal.TheVariants.{BadElements, BadLine, CountNotTaken, MemoryTooShort}
-use Rattle.refusal.specs.Answer.{refused_when, text_checked}
+use Rattle.refusal.specs.Answer.{text_checked}
 use Rattle.refusal.proofs.Checks.{past, text_length, text_past}
 use Rattle.refusal.proofs.Places.{is_true}
 use Rattle.code.specs.Coder.{coded_count}
-use Rattle.stage.specs.Burst.{burst}
-use Rattle.stage.specs.Elements.{octet_of}
 use Rattle.stage.specs.Frames.{no_frames}
 use Rattle.stage.specs.Meaning.{Meaning, length_answer}
 use Rattle.stage.proofs.AnswersKnown.{length_known, ok_is}

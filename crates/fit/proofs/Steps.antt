@@ -1,13 +1,9 @@
 -- The steps of the sum over the markers.
-use Rattle.std.proofs.Common.{◌≡◌, ℕ, ◌+◌, ◌*◌, ◌<◌, ◌≤◌, Bool, true, false, cond, not, T, eqb, ltb, List, length, get_or, take, ℤ, pos, negsuc, ◌+ℤ◌, neg_ℤ, ◌≤ℤ◌, Ok, Result, sym, refl, ap, ◌∙◌, subst, arith, w8, w32, SFits, to_z, of_z}
-use Rattle.std.proofs.lemmas.Int.{ints, to_z-of_z}
+use Rattle.std.proofs.Common.{◌≡◌, ℕ, ◌+◌, ◌*◌, ◌<◌, ◌≤◌, T, List, length, get_or, take, ℤ, pos, negsuc, ◌+ℤ◌, neg_ℤ, ◌≤ℤ◌, Ok, sym, refl, arith, w32, to_z, of_z}
+use Rattle.std.proofs.lemmas.Int.{ints}
 use Rattle.std.proofs.lemmas.List.Sums.{fold_more}
 use Rattle.std.proofs.lemmas.Bool.{le-ltb, ne_eqb}
-use Rattle.refusal.specs.declared.Refusal.{Refusal}
 use Rattle.stage.specs.declared.Marker.{Marker}
-use Rattle.refusal.specs.Answer.{refused_when}
-use Rattle.refusal.specs.declared.Refusal.TheVariants.{BurstNotHeard, NoMarker, PoorFit, CountNotTaken}
-use Rattle.refusal.proofs.Checks.{past}
 use Rattle.refusal.proofs.Places.{is_true}
 use Rattle.stage.specs.Marked.{Marked, count_answer, no_marker}
 use Rattle.stage.specs.Meaning.{Meaning, Homes}

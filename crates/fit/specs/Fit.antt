@@ -1,5 +1,5 @@
 -- How well a pile's markers fit what was heard, and the start at which they fit best.
-use Rattle.std.specs.Prelude.{ℕ, suc, ◌+◌, ◌-◌, ◌*◌, Bool, cond, not, List, length, ℤ, pos, ◌+ℤ◌, neg_ℤ, Ok, fold, Result, ◌==◌, int_lt, nat_lt, slice_index_or}
+use Rattle.std.specs.Prelude.{ℕ, suc, ◌+◌, ◌-◌, ◌*◌, cond, not, List, length, ℤ, pos, ◌+ℤ◌, neg_ℤ, Ok, fold, Result, ◌==◌, int_lt, nat_lt, slice_index_or}
 use Rattle.refusal.specs.declared.Refusal.{Refusal}
 use Rattle.refusal.specs.declared.Refusal.TheVariants.{BurstNotHeard, NoMarker, PoorFit, CountNotTaken}
 use Rattle.refusal.specs.Answer.{refused_when}

@@ -1,9 +1,9 @@
 -- The law over histories: every call of a list shows of its answer what it has to.
-use Rattle.std.proofs.Common.{◌≡◌, ℕ, zero, suc, ◌+◌, ◌*◌, ◌<◌, ◌≤◌, Bool, true, false, cond, not, ◌||◌, eqb, ltb, List, [], ◌∷◌, ◌++◌, map, length, get_or, take, drop, replicate, ℤ, pos, ◌≤ℤ◌, ◌<ℤ◌, is_ok, Ok, Err, Result, sym, refl, ap, ◌∙◌, subst, arith}
+use Rattle.std.proofs.Common.{◌≡◌, ℕ, zero, suc, ◌+◌, ◌*◌, ◌≤◌, Bool, true, false, cond, not, eqb, ltb, List, [], ◌∷◌, ◌++◌, map, length, get_or, take, drop, replicate, ℤ, pos, ◌≤ℤ◌, is_ok, Ok, Err, Result, sym, refl, ap, ◌∙◌, subst, arith}
 use lib.Signed.{lt_z}
 use Rattle.std.proofs.lemmas.Int.{ints}
 use Rattle.std.proofs.lemmas.Bool.{ltb-false}
-use Rattle.std.proofs.lemmas.List.{get_or-take, take-map, length-map}
+use Rattle.std.proofs.lemmas.List.{get_or-take}
 use Rattle.refusal.specs.declared.Refusal.{Refusal}
 use Rattle.refusal.specs.declared.Refusal.TheVariants.{BurstNotHeard, NoMarker, PoorFit, CountNotTaken, ValueOutOfRange, CapacityExceeded}
 use Rattle.refusal.specs.Answer.{refused_when}
@@ -16,15 +16,15 @@ use Rattle.stage.specs.declared.Marker.{Marker}
 use Rattle.stage.specs.Meaning.{Meaning, Homes}
 use Rattle.stage.proofs.AnswersKnown.{ok_is}
 use Rattle.values.specs.Values.{out_of_range}
-use Rattle.fit.specs.Fit.{fit, best_of, starts, fits_well, best_start_answer}
+use Rattle.fit.specs.Fit.{fit, starts, best_start_answer}
 use Rattle.reading.specs.Reading.{nearest_string, read_answer, NearestRead}
 use Rattle.reading.proofs.Shown.{read_shows}
-use Rattle.receiver.specs.State.{State, standing, opened, Request, begins, hears, loses, finds, reads, hear_answer, lose_answer, find_answer, erased, unless_refused, next}
-use Rattle.history.specs.History.{Reply, refused, done, found, has_read, answered, reply, EarliestBestFit, Shows, as_request}
+use Rattle.receiver.specs.State.{State, standing, opened, Request, begins, hears, loses, finds, reads, lose_answer, find_answer, erased, unless_refused, next}
+use Rattle.history.specs.History.{Reply, done, found, has_read, answered, reply, EarliestBestFit, Shows, as_request}
 use Rattle.history.specs.Lists.{state_after, replies, Each}
 use Rattle.history.specs.declared.Call.{Call}
 use Rattle.history.specs.declared.Call.TheVariants.{Begin, Hear, Lose, Find, Read}
-use Rattle.history.proofs.Replies.{get_or-replies, length-replies}
+use Rattle.history.proofs.Replies.{get_or-replies}
 
 -- a find that was answered
 pub find_answered : (r : Result (ℕ × ℤ) Refusal) (start : ℕ) (greatest : ℤ) → answered (λ best. found best.0 best.1) r ≡ found start greatest → Ok (start, greatest) ≡ r

@@ -1,16 +1,16 @@
 -- Memory of a read cut to what can make a difference.
-use Rattle.std.proofs.Common.{◌≡◌, ℕ, ◌+◌, ◌-◌, ◌*◌, ◌<◌, ◌≤◌, min, Bool, true, false, not, ◌||◌, eqb, ltb, ◌⊎◌, List, ◌++◌, length, take, drop, ℤ, Ok, Err, Result, sym, refl, ap, ◌∙◌, inl, inr, ⊎_elim, arith}
+use Rattle.std.proofs.Common.{◌≡◌, ℕ, ◌+◌, ◌≤◌, min, Bool, true, false, not, ◌||◌, ltb, List, ◌++◌, length, take, drop, ℤ, Ok, Result, sym, refl, ap, ◌∙◌, ⊎_elim, arith}
 use Rattle.std.proofs.lemmas.Bool.{cases_lt, lt-ltb, le-ltb, ltb-false}
 use Rattle.refusal.specs.declared.Refusal.{Refusal}
 use Rattle.refusal.specs.declared.Refusal.TheVariants.{MemoryTooShort, BurstNotHeard, CountNotTaken}
-use Rattle.refusal.specs.Answer.{refused_when, text_checked}
+use Rattle.refusal.specs.Answer.{text_checked}
 use Rattle.refusal.proofs.Checks.{passed, text_passed}
 use Rattle.code.specs.Coder.{coded_count}
 use Rattle.stage.specs.Meaning.{Meaning}
 use Rattle.trellis.specs.Search.{steps_of}
 use Rattle.code.proofs.NearestText.{nearest_stands}
 use Rattle.refusal.specs.Answer.{laid}
-use Rattle.reading.specs.Reading.{distance, nearest_string, nearest_distance, read_answer}
+use Rattle.reading.specs.Reading.{distance, nearest_string, read_answer}
 use Rattle.std.proofs.lemmas.List.{append_assoc, take_at}
 
 -- a limit that is no less than what is asked for makes no difference

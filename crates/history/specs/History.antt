@@ -13,7 +13,7 @@ use Rattle.history.specs.declared.Call.{Call}
 use Rattle.history.specs.declared.Call.TheVariants.{Begin, Hear, Lose, Find, Read as Reading}
 use Rattle.history.specs.declared.Answer.{Answer}
 use Rattle.history.specs.declared.Answer.TheVariants.{Refused, Done, Found, Read}
-use Rattle.history.specs.Lists.{state_after, replies, memory_after, Each}
+use Rattle.history.specs.Lists.{replies, memory_after, Each}
 
 -- what a call is answered: a refusal by its number in the table, a find with its start and fit, a read with the text
 -- written and its distance

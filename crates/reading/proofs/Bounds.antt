@@ -1,7 +1,7 @@
 -- How great gaps and costs can be where every value is from -127 to 127.
-use Rattle.std.proofs.Common.{◌≡◌, ℕ, suc, ◌+◌, ◌*◌, ◌<◌, ◌≤◌, Bool, true, false, cond, ◌&&◌, ltb, List, length, get_or, ℤ, pos, negsuc, ◌+ℤ◌, ◌-ℤ◌, nat_abs, sym, refl, ap, ◌∙◌, arith, ltb-false}
+use Rattle.std.proofs.Common.{◌≡◌, ℕ, ◌+◌, ◌≤◌, Bool, true, false, cond, ◌&&◌, ltb, List, length, get_or, ℤ, pos, negsuc, ◌+ℤ◌, ◌-ℤ◌, nat_abs, refl, arith, ltb-false}
 use Rattle.std.proofs.lemmas.Int.{ints}
-use Rattle.refusal.specs.Counting.{any, total}
+use Rattle.refusal.specs.Counting.{any}
 use Rattle.refusal.proofs.Any.{none_at}
 use Rattle.refusal.proofs.Totals.{total_bound}
 use Rattle.code.specs.Coder.{bit, coded, coded_count}

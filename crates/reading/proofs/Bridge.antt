@@ -1,6 +1,6 @@
 -- The distance of a string over the places of its burst is the part that all strings share plus the costs of its coded
 -- bits at their homes.
-use Rattle.std.proofs.Common.{◌≡◌, ℕ, ◌+◌, ◌<◌, ◌≤◌, Bool, true, false, cond, not, ◌&&◌, T, ltb, ◌⊎◌, List, map, length, get_or, ℤ, pos, sym, refl, ap, ◌∙◌, subst, inl, inr, ⊎_elim, add-zero, zero-add, arith, eqb→eq}
+use Rattle.std.proofs.Common.{◌≡◌, ℕ, ◌+◌, ◌<◌, Bool, false, T, ◌⊎◌, List, length, get_or, ℤ, pos, sym, refl, ap, ◌∙◌, subst, inl, inr, add-zero, zero-add, arith, eqb→eq}
 use lib.Dec.{eqb_refl}
 use Rattle.std.proofs.lemmas.List.FromFn.{length-map-range_with_len, get_or-map-range_with_len}
 use Rattle.std.proofs.lemmas.List.{length-map, get_or-map}
@@ -9,7 +9,6 @@ use Rattle.refusal.specs.Counting.{total}
 use Rattle.refusal.proofs.Places.{is_true}
 use Rattle.refusal.proofs.Totals.{total_ext, total_add}
 use Rattle.code.specs.Coder.{bit, coded, coded_bits, coded_count}
-use Rattle.code.specs.Nearest.{Octets}
 use Rattle.code.specs.Separation.{coding_cost}
 use Rattle.stage.specs.declared.Content.{Content}
 use Rattle.stage.specs.declared.Content.TheVariants.{Carried, Inverted, Fixed, Mute as Silence}

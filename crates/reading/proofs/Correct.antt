@@ -1,12 +1,11 @@
 -- What a burst that stands at the start is read as: noise of at most 15 is corrected, and full strength lies at
 -- distance 0.
-use Rattle.std.proofs.Common.{◌≡◌, ℕ, zero, suc, ◌+◌, ◌*◌, ◌<◌, ◌≤◌, Bool, true, false, cond, not, T, List, map, length, get_or, take, drop, ℤ, pos, sym, refl, ap, ◌∙◌, subst, arith}
+use Rattle.std.proofs.Common.{◌≡◌, ℕ, ◌+◌, ◌<◌, ◌≤◌, Bool, true, false, not, T, List, map, length, get_or, take, drop, ℤ, pos, sym, refl, ap, ◌∙◌, subst, arith}
 use mathlib.Core.Bool.{xor}
 use Rattle.std.proofs.lemmas.List.{get_or-map, get_or-take, get_or-drop}
-use Rattle.refusal.specs.Counting.{total, count}
 use Rattle.code.specs.Coder.{bit, coded, coded_count}
 use Rattle.code.specs.Nearest.{Octets, Nearest, nearest}
-use Rattle.code.specs.Separation.{coding_cost, Heard, full, wrong, lost, is_wrong, is_lost, noise, heard_cost, HeardAs}
+use Rattle.code.specs.Separation.{coding_cost, Heard, full, wrong, lost, noise, heard_cost, HeardAs}
 use Rattle.code.proofs.Correction.{corrected}
 use Rattle.code.proofs.NearestText.{nearest_is, nearest_stands, shifted_nearest}
 use Rattle.stage.specs.declared.Content.{Content}
@@ -14,13 +13,12 @@ use Rattle.stage.specs.declared.Content.TheVariants.{Carried, Inverted, Fixed, M
 use Rattle.stage.specs.declared.Element.{Element}
 use Rattle.stage.specs.declared.Element.TheVariants.{Zero, One, Mute}
 use Rattle.stage.specs.Burst.{burst, entering}
-use Rattle.stage.specs.Elements.{element_of, evaluated, full_strength, opposite}
+use Rattle.stage.specs.Elements.{element_of, full_strength}
 use Rattle.stage.specs.Meaning.{Meaning, Homes, carries, home_of}
 use Rattle.stage.specs.Piled.{bit_through}
 use Rattle.stage.specs.Homes.{home_holds}
-use Rattle.stage.proofs.Leaving.{element_not, length-leaving, get_or-leaving}
 use Rattle.reading.specs.Reading.{gap, distance, heard_value, StandsAt}
-use Rattle.reading.specs.Soft.{fixed_part, home_gap, soft_cost}
+use Rattle.reading.specs.Soft.{fixed_part, soft_cost}
 use Rattle.reading.proofs.Bridge.{get_or-entering, evaluated_through, get_or-burst, length_burst, soft_there, bridge}
 use Rattle.reading.proofs.Homed.{zeros}
 

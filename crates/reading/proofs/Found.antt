@@ -1,10 +1,9 @@
 -- The nearest burst from what the search found: the shared part and the cost found make the distance.
-use Rattle.std.proofs.Common.{◌≡◌, ℕ, ◌+◌, ◌<◌, ◌≤◌, Bool, false, not, ◌||◌, T, ltb, List, length, ℤ, Ok, Result, sym, refl, ap, ◌∙◌, subst, arith}
-use Rattle.refusal.specs.declared.Refusal.{Refusal}
-use Rattle.refusal.specs.declared.Refusal.TheVariants.{MemoryTooShort, CountNotTaken}
-use Rattle.refusal.specs.Answer.{refused_when, text_checked}
+use Rattle.std.proofs.Common.{◌≡◌, ℕ, ◌+◌, ◌≤◌, Bool, false, ◌||◌, T, ltb, List, ℤ, Ok, sym, refl, ap, ◌∙◌, subst, arith}
+use Rattle.refusal.specs.declared.Refusal.TheVariants.{MemoryTooShort}
+use Rattle.refusal.specs.Answer.{text_checked}
 use Rattle.refusal.specs.Counting.{any}
-use Rattle.refusal.proofs.Checks.{passed, past, text_length, text_past, text_passed}
+use Rattle.refusal.proofs.Checks.{passed, text_length, text_past, text_passed}
 use Rattle.refusal.proofs.Places.{is_true}
 use Rattle.code.specs.Coder.{coded_count}
 use Rattle.code.specs.Nearest.{nearest}

@@ -1,11 +1,10 @@
 -- What an accepted reading shows follows from its rule.
-use Rattle.std.proofs.Common.{◌≡◌, ℕ, ◌+◌, ◌<◌, ◌≤◌, Bool, true, false, not, ◌||◌, T, ltb, List, map, length, ℤ, Ok, Result, sym, refl, ap, ◌∙◌, subst, arith, ltb-false}
-use Rattle.refusal.specs.declared.Refusal.{Refusal}
+use Rattle.std.proofs.Common.{◌≡◌, ℕ, ◌+◌, false, not, ◌||◌, ltb, List, length, ℤ, Ok, ap, ◌∙◌, arith, ltb-false}
 use Rattle.refusal.specs.Counting.{any}
 use Rattle.refusal.proofs.Checks.{passed, text_passed}
 use Rattle.code.specs.Coder.{coded_count}
 use Rattle.code.specs.Nearest.{nearest}
-use Rattle.code.specs.Separation.{Heard, full}
+use Rattle.code.specs.Separation.{full}
 use Rattle.code.proofs.NearestText.{nearest_stands}
 use Rattle.stage.specs.Meaning.{Meaning, Homes}
 use Rattle.stage.proofs.AnswersKnown.{taken, ok_is}

@@ -1,12 +1,12 @@
 -- What the soft bits cost, by what the pile answers.
-use Rattle.std.proofs.Common.{◌≡◌, ℕ, ◌+◌, ◌<◌, Bool, true, false, cond, ◌&&◌, T, ltb, List, get_or, ℤ, pos, Ok, sym, refl, ap, ◌∙◌, add-one, arith, w8, SFits, to_z, of_z}
+use Rattle.std.proofs.Common.{◌≡◌, ℕ, ◌+◌, Bool, List, get_or, ℤ, pos, Ok, sym, refl, ap, ◌∙◌, add-one, arith, w8, SFits, to_z, of_z}
 use Rattle.std.proofs.lemmas.Int.{to_z-of_z}
 use Rattle.std.proofs.lemmas.Bool.{lt-ltb}
 use Rattle.refusal.specs.Counting.{total}
 use Rattle.refusal.proofs.Places.{is_true}
 use Rattle.stage.specs.declared.Content.{Content}
 use Rattle.stage.specs.Elements.{element_of}
-use Rattle.stage.specs.Meaning.{Meaning, home_of, home_answer, content_answer}
+use Rattle.stage.specs.Meaning.{Meaning, home_answer, content_answer}
 use Rattle.stage.specs.Piled.{bit_through}
 use Rattle.stage.proofs.AnswersKnown.{home_known, content_known}
 use Rattle.reading.specs.Reading.{gap}

@@ -1,5 +1,5 @@
 -- Reading: how far a string lies from what was heard, and what a reading answers.
-use Rattle.std.specs.Prelude.{◌≡◌, ℕ, ◌+◌, ◌<◌, ◌≤◌, Bool, true, false, not, ◌||◌, List, map, length, take, drop, ℤ, pos, ◌+ℤ◌, ◌-ℤ◌, Ok, Result, nat_lt, slice_index_or, unsigned_abs}
+use Rattle.std.specs.Prelude.{◌≡◌, ℕ, ◌+◌, ◌<◌, ◌≤◌, false, not, ◌||◌, List, map, length, take, drop, ℤ, pos, ◌+ℤ◌, ◌-ℤ◌, Ok, Result, nat_lt, slice_index_or, unsigned_abs}
 use Rattle.refusal.specs.declared.Refusal.{Refusal}
 use Rattle.refusal.specs.declared.Refusal.TheVariants.{MemoryTooShort, BurstNotHeard, CountNotTaken}
 use Rattle.refusal.specs.Answer.{refused_when, text_checked}

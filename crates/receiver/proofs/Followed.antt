@@ -1,10 +1,10 @@
 -- What a call has done to a receiver is what the rules say.
-use Rattle.std.proofs.Common.{◌≡◌, ℕ, suc, ◌+◌, ◌<◌, ◌≤◌, min, Bool, true, false, cond, ◌||◌, eqb, ltb, List, ◌++◌, length, get_or, take, drop, replicate, ℤ, pos, negsuc, Ok, Err, Result, sym, refl, ap, ◌∙◌, subst, arith, w8, SFits, of_z, rules}
-use Rattle.std.proofs.lemmas.List.{places, same_lists, take-append-drop, length-take-le, length-replicate, take_at, drop_at, length-append, append_assoc, at_drop_more, at_drop_all}
-use Rattle.std.proofs.lemmas.Bool.{eq-eqb, ne_eqb, lt-ltb, le-ltb}
+use Rattle.std.proofs.Common.{◌≡◌, ℕ, suc, ◌+◌, ◌<◌, ◌≤◌, true, false, ◌||◌, ltb, List, ◌++◌, length, get_or, take, drop, replicate, ℤ, pos, negsuc, Ok, Err, Result, sym, refl, ap, ◌∙◌, arith, w8, SFits, of_z, rules}
+use Rattle.std.proofs.lemmas.List.{places, same_lists, take-append-drop, length-take-le, length-replicate, take_at, length-append, append_assoc, at_drop_more, at_drop_all}
+use Rattle.std.proofs.lemmas.Bool.{lt-ltb, le-ltb}
 use Rattle.std.proofs.lemmas.Bool.Decides.{nat_tests}
 use Rattle.refusal.specs.declared.Refusal.{Refusal}
-use Rattle.refusal.specs.declared.Refusal.TheVariants.{EmptyText, TextTooLong, CapacityExceeded, NoSuchPlace}
+use Rattle.refusal.specs.declared.Refusal.TheVariants.{CapacityExceeded, NoSuchPlace}
 use Rattle.refusal.specs.Answer.{text_checked}
 use Rattle.refusal.proofs.Checks.{text_past}
 use Rattle.stage.specs.declared.Marker.{Marker}
@@ -14,7 +14,7 @@ use Rattle.fit.specs.Fit.{best_start_answer}
 use Rattle.refusal.specs.Answer.{laid}
 use Rattle.refusal.specs.Counting.{any}
 use Rattle.values.specs.Values.{out_of_range}
-use Rattle.receiver.specs.State.{State, Request, standing, hears, loses, finds, hear_answer, lose_answer, find_answer, next, left, erased, unless_refused}
+use Rattle.receiver.specs.State.{State, Request, standing, hears, loses, finds, hear_answer, lose_answer, find_answer, next, erased}
 use Rattle.receiver.specs.Held.{memory_of, room, held, Follows, written}
 use Rattle.receiver.specs.declared.memory.Receiver.{Receiver}
 

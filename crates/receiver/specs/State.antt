@@ -1,5 +1,5 @@
 -- What a receiver holds, and what each of its calls answers: rules over values and a start.
-use Rattle.std.specs.Prelude.{ℕ, ◌+◌, min, Bool, cond, List, [], ◌++◌, length, take, drop, replicate, ℤ, pos, is_ok, Ok, Err, Result, nat_lt}
+use Rattle.std.specs.Prelude.{ℕ, ◌+◌, min, cond, List, [], ◌++◌, length, take, drop, replicate, ℤ, pos, is_ok, Ok, Err, Result, nat_lt}
 use Rattle.refusal.specs.declared.Refusal.{Refusal}
 use Rattle.refusal.specs.declared.Refusal.TheVariants.{ValueOutOfRange, CapacityExceeded, NoSuchPlace}
 use Rattle.refusal.specs.Answer.{refused_when, text_checked, laid}

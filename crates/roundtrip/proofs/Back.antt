@@ -1,24 +1,23 @@
 -- A burst at full strength is read back.
-use Rattle.std.proofs.Common.{◌≡◌, ℕ, ◌+◌, ◌<◌, ◌≤◌, Bool, true, false, not, ◌||◌, T, ltb, List, map, length, get_or, take, drop, ℤ, Ok, Err, Result, sym, refl, ap, ◌∙◌, subst, arith}
+use Rattle.std.proofs.Common.{◌≡◌, ℕ, ◌+◌, ◌<◌, ◌≤◌, true, false, not, ◌||◌, T, ltb, List, map, length, get_or, drop, ℤ, Ok, Err, Result, sym, refl, ap, ◌∙◌, subst, arith}
 use Rattle.std.proofs.lemmas.List.{length-map, take_all}
 use Rattle.std.proofs.lemmas.Bool.{le-ltb}
 use Rattle.refusal.specs.declared.Refusal.{Refusal}
-use Rattle.refusal.specs.declared.Refusal.TheVariants.{MemoryTooShort, CapacityExceeded, CountNotTaken, BurstNotHeard}
+use Rattle.refusal.specs.declared.Refusal.TheVariants.{MemoryTooShort, CapacityExceeded, CountNotTaken}
 use Rattle.refusal.specs.Answer.{refused_when, text_checked}
 use Rattle.refusal.specs.Counting.{any}
 use Rattle.refusal.proofs.Checks.{past, text_past}
 use Rattle.refusal.proofs.Places.{is_true}
 use Rattle.code.specs.Coder.{coded_count}
-use Rattle.code.specs.Nearest.{Octets}
 use Rattle.stage.specs.Burst.{burst}
 use Rattle.stage.specs.Elements.{full_strength}
 use Rattle.stage.specs.Meaning.{Meaning, Homes, length_answer}
-use Rattle.stage.proofs.AnswersKnown.{length_known, ok_is}
+use Rattle.stage.proofs.AnswersKnown.{length_known}
 use Rattle.transmitter.specs.Write.{burst_length, burst_answer}
-use Rattle.transmitter.proofs.Octets.{n_is, write_there}
+use Rattle.transmitter.proofs.Octets.{write_there}
 use Rattle.trellis.specs.Search.{steps_of}
 use Rattle.values.specs.Values.{out_of_range}
-use Rattle.reading.specs.Reading.{distance, nearest_string, nearest_distance, read_answer}
+use Rattle.reading.specs.Reading.{nearest_string, nearest_distance, read_answer}
 use Rattle.reading.proofs.Bridge.{length_burst}
 use Rattle.reading.proofs.Shown.{read_shows}
 use Rattle.roundtrip.specs.RoundTrip.{read_back_answer}

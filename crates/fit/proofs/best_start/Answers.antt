@@ -1,4 +1,4 @@
-use Rattle.std.proofs.Common.{◌≡◌, ℕ, ◌+◌, ◌-◌, ◌≤◌, length, Ok, sym, ap, ◌∙◌, arith, rules}
+use Rattle.std.proofs.Common.{◌≡◌, ◌+◌, ◌-◌, length, sym, ap, ◌∙◌, arith}
 use Rattle.stage.proofs.AnswersKnown.{length_known, ok_is}
 use Rattle.fit.specs.Fit.{fits_well}
 use Rattle.fit.proofs.Steps.{counted_markers, decided_by_fit}

@@ -1,5 +1,5 @@
-use Rattle.std.proofs.Common.{◌≡◌, ℕ, ◌≤◌, ℤ, ◌≤ℤ◌, ◌<ℤ◌, Ok, sym, ap, ◌∙◌, subst, arith, w32, SFits, rules}
-use Rattle.std.proofs.lemmas.Int.{ints, to_z-of_z}
+use Rattle.std.proofs.Common.{◌≡◌, ℕ, ℤ, Ok, ap, ◌∙◌, subst, arith, w32, SFits, rules}
+use Rattle.std.proofs.lemmas.Int.{to_z-of_z}
 use Rattle.refusal.specs.Counting.{earliest_best, EarliestBest}
 use Rattle.fit.specs.Fit.{fit}
 use Rattle.refusal.proofs.Bests.{best_none, turn_takes, turn_keeps, best_is}

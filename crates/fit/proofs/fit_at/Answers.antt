@@ -1,4 +1,4 @@
-use Rattle.std.proofs.Common.{◌≡◌, ◌+◌, ◌<◌, ◌≤◌, cond, List, length, get_or, ℤ, pos, ◌+ℤ◌, neg_ℤ, Ok, sym, ap, ◌∙◌, arith, w8, w32, SFits, to_z, of_z, rules}
+use Rattle.std.proofs.Common.{◌≡◌, ◌≤◌, cond, List, length, ℤ, neg_ℤ, Ok, ap, ◌∙◌, arith, w8, SFits, rules}
 use Rattle.std.proofs.lemmas.List.{take_all}
 use Rattle.std.proofs.lemmas.Int.{to_z-of_z}
 use Rattle.stage.proofs.Markers.{marker_known}

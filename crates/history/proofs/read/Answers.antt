@@ -1,6 +1,6 @@
-use Rattle.std.proofs.Common.{◌≡◌, sym, refl, ap, ◌∙◌, rules}
+use Rattle.std.proofs.Common.{refl, ap, ◌∙◌}
 use Rattle.receiver.specs.Held.{string_of}
-use Rattle.history.specs.History.{Reply, has_read, answered}
+use Rattle.history.specs.History.{has_read, answered}
 use Rattle.history.proofs.read.Goals as goal
 
 pub returns-in-Ok : goal.returns-in-Ok

@@ -1,4 +1,4 @@
-use Rattle.std.proofs.Common.{◌≡◌, ℕ, ◌<◌, ◌≤◌, true, false, ltb, List, map, length, take, drop, ℤ, sym, refl, ap, ◌∙◌, subst, arith, rules}
+use Rattle.std.proofs.Common.{◌≡◌, ℕ, false, ltb, List, map, length, take, drop, ℤ, sym, refl, ap, ◌∙◌, subst, arith, rules}
 use Rattle.std.proofs.lemmas.List.{length-map, take_all, take-map}
 use Rattle.std.proofs.lemmas.Bool.{le-ltb}
 use Rattle.receiver.specs.State.{opened, capacity, Request, next, left}
@@ -6,7 +6,7 @@ use Rattle.receiver.specs.Held.{memory_of, room, held}
 use Rattle.history.specs.History.{reply, as_request, as_reply}
 use Rattle.history.specs.Lists.{replies, memory_after}
 use Rattle.history.specs.declared.Call.{Call}
-use Rattle.history.proofs.Replies.{Made, made_none, made_more}
+use Rattle.history.proofs.Replies.{Made, made_more}
 use Rattle.history.proofs.Law.{lawful}
 use Rattle.history.proofs.replay.Goals as goal
 

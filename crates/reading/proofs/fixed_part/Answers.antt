@@ -1,4 +1,4 @@
-use Rattle.std.proofs.Common.{◌+◌, ◌<◌, ◌≤◌, ◌∙◌, arith, w8, SFits, rules}
+use Rattle.std.proofs.Common.{◌∙◌, arith, w8, SFits, rules}
 use Rattle.stage.proofs.AnswersKnown.{length_known}
 use Rattle.reading.proofs.Soft.{fixed_more}
 use Rattle.reading.proofs.fixed_part.Goals as goal

@@ -1,4 +1,4 @@
-use Rattle.std.proofs.Common.{◌≡◌, ◌+◌, ◌≤◌, Ok, sym, refl, ap, ◌∙◌, arith, rules}
+use Rattle.std.proofs.Common.{◌+◌, Ok, ap, ◌∙◌, rules}
 use Rattle.refusal.specs.Answer.{laid}
 use Rattle.stage.proofs.AnswersKnown.{ok_is}
 use Rattle.reading.proofs.Found.{same_text, found_small, burst_answered}

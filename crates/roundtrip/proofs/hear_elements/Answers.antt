@@ -1,4 +1,4 @@
-use Rattle.std.proofs.Common.{◌≡◌, ℕ, ◌<◌, [], ◌∷◌, map, length, take, sym, refl, ap, ◌∙◌, subst, arith, w8, SFits, rules}
+use Rattle.std.proofs.Common.{◌≡◌, ℕ, [], ◌∷◌, map, take, refl, ap, ◌∙◌, subst, arith, w8, SFits, rules}
 use Rattle.std.proofs.lemmas.List.{take_all}
 use Rattle.std.proofs.lemmas.Int.{to_z-of_z}
 use Rattle.refusal.specs.Answer.{laid}

@@ -1,4 +1,4 @@
-use Rattle.std.proofs.Common.{◌≡◌, length, vec_items, ap, ◌∙◌, subst}
+use Rattle.std.proofs.Common.{length, vec_items, ap, ◌∙◌, subst}
 use Rattle.std.proofs.lemmas.Result.{err_from_is_err_and}
 use Rattle.exchange.specs.Outgoing.{Makes, sound_of, usual_burst, usual_sound}
 use Rattle.exchange.proofs.Sent.{same_failure, sound_rule}

@@ -1,4 +1,4 @@
-use Rattle.std.proofs.Common.{◌≡◌, ◌+◌, ◌<◌, ◌≤◌, length, get_or, take, ℤ, pos, sym, ◌∙◌, arith, w8, SFits, rules}
+use Rattle.std.proofs.Common.{◌+◌, ◌≤◌, get_or, take, pos, sym, ◌∙◌, arith, w8, SFits, rules}
 use lib.ListN.{get_or-eq_default}
 use Rattle.std.proofs.lemmas.List.{get_or-take, length-take-le}
 use Rattle.std.proofs.lemmas.Int.{to_z-of_z}

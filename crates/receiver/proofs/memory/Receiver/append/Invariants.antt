@@ -1,4 +1,4 @@
-use Rattle.std.proofs.Common.{◌≡◌, take}
+use Rattle.std.proofs.Common.{◌≡◌}
 use lib.Seq.{paste}
 use Rattle.receiver.proofs.memory.Receiver.append.Given as goal
 

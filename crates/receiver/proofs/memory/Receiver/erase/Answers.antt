@@ -1,7 +1,6 @@
-use Rattle.std.proofs.Common.{◌≡◌, ◌+◌, ◌≤◌, length, replicate, pos, sym, refl, ap, ◌∙◌, arith, rules}
+use Rattle.std.proofs.Common.{◌+◌, ◌≤◌, length, replicate, pos, refl, arith, rules}
 use Rattle.refusal.proofs.Any.{none_take_set}
 use Rattle.values.specs.Values.{out_of_range}
-use Rattle.std.proofs.lemmas.List.{length-replicate}
 use Rattle.std.proofs.lemmas.List.Edits.{paste_none}
 use Rattle.receiver.proofs.Writes.{erase_more, erase_all}
 use Rattle.receiver.proofs.memory.Receiver.erase.Goals as goal

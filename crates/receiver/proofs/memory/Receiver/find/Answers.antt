@@ -1,7 +1,7 @@
-use Rattle.std.proofs.Common.{◌≡◌, Ok, Err, sym, refl, ap, ◌∙◌}
+use Rattle.std.proofs.Common.{sym, refl, ◌∙◌}
 use Rattle.std.proofs.lemmas.Result.{err_from_is_err_and}
 use Rattle.code.specs.Coder.{coded_count}
-use Rattle.receiver.specs.State.{standing, find_answer}
+use Rattle.receiver.specs.State.{standing}
 use Rattle.receiver.specs.Held.{held}
 use Rattle.receiver.proofs.Followed.{length_refused, find_refused, found_follows, find_answered}
 use Rattle.receiver.proofs.memory.Receiver.find.Goals as goal

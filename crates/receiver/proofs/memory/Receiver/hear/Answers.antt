@@ -1,4 +1,4 @@
-use Rattle.std.proofs.Common.{◌≡◌, ◌+◌, ◌≤◌, true, false, get_or, pos, sym, refl, arith, w8, SFits, rules}
+use Rattle.std.proofs.Common.{◌≡◌, true, get_or, pos, sym, refl, arith, w8, SFits, rules}
 use Rattle.refusal.specs.Counting.{any}
 use Rattle.values.specs.Values.{out_of_range}
 use Rattle.receiver.proofs.Followed.{stays, appended, out_of_range_is, in_range_is, range_more, range_some, range_none, hear_refused, hear_accepted}

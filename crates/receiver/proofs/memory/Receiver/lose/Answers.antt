@@ -1,4 +1,4 @@
-use Rattle.std.proofs.Common.{◌≡◌, ◌+◌, ◌<◌, ◌≤◌, sym, refl, arith}
+use Rattle.std.proofs.Common.{◌+◌, ◌<◌, ◌≤◌, sym, refl, arith}
 use Rattle.receiver.proofs.Followed.{stays, erased_follows, lose_refused, lose_accepted}
 use Rattle.receiver.proofs.memory.Receiver.lose.Goals as goal
 

@@ -1,6 +1,5 @@
 use Rattle.std.proofs.Common.{◌≡◌, length, rules}
-use Rattle.receiver.specs.State.{standing}
-use Rattle.receiver.specs.Held.{held, read_of}
+use Rattle.receiver.specs.Held.{read_of}
 use Rattle.receiver.proofs.Shown.{read_made}
 use Rattle.receiver.proofs.memory.Receiver.read.Goals as goal
 
