@@ -1,5 +1,5 @@
 -- What the small stage owes: element i stands at i and nowhere else.
-use Rattle.std.specs.Prelude.{◌≡◌, ℕ, ◌<◌}
+use Rattle.std.specs.Prelude.{◌<◌}
 use Rattle.std.proofs.Common.{subst, arith, eqb→eq, leb→le}
 use Rattle.std.proofs.Math.Dec.{eqb_refl}
 use Rattle.stage.proofs.Placed.{Placed}

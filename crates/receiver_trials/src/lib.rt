@@ -1,3 +1,5 @@
+#![tactic(auto)]
+
 // Trials of the receiver with real stages: full memory, bursts at every offset, texts read through noise, all strings of
 // one octet, and lists of calls of all kinds.
 #[cfg(test)]
