@@ -1,3 +1,5 @@
+#![tactic(auto)]
+
 // Trials: the coder, each stage of a burst, piles of piles, one of two stages, bursts through them, tones, files, the whole way
 // out, and the way through the trellis on levels.
 #[cfg(test)]
