@@ -2,7 +2,6 @@
 #![tactic(auto)]
 
 ghost use Rattle.std.specs.Prelude.{◌≡◌, ◌+◌, ◌<◌, ◌≤◌, T, length, pos, negsuc, neg_ℤ, ◌≤ℤ◌, if◌then◌else◌, Ok};
-ghost use Rattle.stage.specs.Meaning.{meaning_of};
 ghost use Rattle.stage.specs.Marked.{Apart};
 ghost use Rattle.fit.specs.Fit.{fit, best_of, best_start_answer};
 
@@ -83,7 +82,7 @@ pub fn best_start<M: MarkedStage>(
     stage: &M,
     n: usize,
 ) -> Result<(usize, i32), Refusal>
-    ensures { result ≡ best_start_answer (meaning_of (M.Stage.takes stage.now) (M.Stage.size stage.now) (M.Stage.at stage.now)) (M.MarkedStage.markers stage.now) n values.now }
+    ensures { result ≡ best_start_answer (M.Stage.meaning stage.now) (M.MarkedStage.markers stage.now) n values.now }
 {
     let length = stage.length(n)?;
     if values.len() < length {

@@ -2,7 +2,7 @@
 #![tactic(auto)]
 
 ghost use Rattle.std.specs.Prelude.{◌≡◌};
-ghost use Rattle.stage.specs.Meaning.{Homes, meaning_of, length_answer, content_answer, home_answer};
+ghost use Rattle.stage.specs.Meaning.{Homes, length_answer, content_answer, home_answer};
 ghost use Rattle.stage.specs.Piled.{piled, piled_markers, moved_answer, Enters};
 ghost use Rattle.stage.proofs.Homes.{piled_homes};
 
@@ -20,20 +20,20 @@ impl<L: Stage, U: Stage> Pile<L, U> {
     // The pile of two stages. What leaves it is what leaves the upper when what leaves the lower enters that.
     pub fn new(lower: L, upper: U) -> Pile<L, U>
         ensures value { (result.lower ≡ lower) × (result.upper ≡ upper) }
-        ensures enters { Enters (meaning_of (L.Stage.takes lower) (L.Stage.size lower) (L.Stage.at lower)) (meaning_of (U.Stage.takes upper) (U.Stage.size upper) (U.Stage.at upper)) }
+        ensures enters { Enters (L.Stage.meaning lower) (U.Stage.meaning upper) }
     {
         Pile { lower, upper }
     }
 }
 
 impl<L: Stage, U: Stage> Stage for Pile<L, U> {
-    ghost takes = { λ s. (piled (meaning_of (L.Stage.takes s.lower) (L.Stage.size s.lower) (L.Stage.at s.lower)) (meaning_of (U.Stage.takes s.upper) (U.Stage.size s.upper) (U.Stage.at s.upper))).takes };
+    ghost takes = { λ s. (piled (L.Stage.meaning s.lower) (U.Stage.meaning s.upper)).takes };
 
-    ghost size = { λ s. (piled (meaning_of (L.Stage.takes s.lower) (L.Stage.size s.lower) (L.Stage.at s.lower)) (meaning_of (U.Stage.takes s.upper) (U.Stage.size s.upper) (U.Stage.at s.upper))).size };
+    ghost size = { λ s. (piled (L.Stage.meaning s.lower) (U.Stage.meaning s.upper)).size };
 
-    ghost at = { λ s. (piled (meaning_of (L.Stage.takes s.lower) (L.Stage.size s.lower) (L.Stage.at s.lower)) (meaning_of (U.Stage.takes s.upper) (U.Stage.size s.upper) (U.Stage.at s.upper))).at };
+    ghost at = { λ s. (piled (L.Stage.meaning s.lower) (U.Stage.meaning s.upper)).at };
 
-    ghost homes = { λ s. piled_homes (meaning_of (L.Stage.takes s.lower) (L.Stage.size s.lower) (L.Stage.at s.lower)) (meaning_of (U.Stage.takes s.upper) (U.Stage.size s.upper) (U.Stage.at s.upper)) (L.Stage.homes s.lower) (U.Stage.homes s.upper) };
+    ghost homes = { λ s. piled_homes (L.Stage.meaning s.lower) (U.Stage.meaning s.upper) (L.Stage.homes s.lower) (U.Stage.homes s.upper) };
 
     fn length(&self, n: usize) -> Result<usize, Refusal> {
         self.upper.length(self.lower.length(n)?)
@@ -57,7 +57,7 @@ impl<L: Stage, U: Stage> Stage for Pile<L, U> {
 
 // A marker among the elements that enter a stage, as it leaves: at its home, inverted where the stage inverts.
 fn moved_up<S: Stage>(stage: &S, n: usize, marker: Marker) -> Result<Marker, Refusal>
-    ensures { result ≡ moved_answer (meaning_of (S.Stage.takes stage.now) (S.Stage.size stage.now) (S.Stage.at stage.now)) n marker }
+    ensures { result ≡ moved_answer (S.Stage.meaning stage.now) n marker }
 {
     let place = stage.home(n, marker.place)?;
     let bit = match stage.content(n, place)? {
@@ -68,7 +68,7 @@ fn moved_up<S: Stage>(stage: &S, n: usize, marker: Marker) -> Result<Marker, Ref
 }
 
 impl<L: MarkedStage, U: MarkedStage> MarkedStage for Pile<L, U> {
-    ghost markers = { λ s. piled_markers (meaning_of (L.Stage.takes s.lower) (L.Stage.size s.lower) (L.Stage.at s.lower)) (meaning_of (U.Stage.takes s.upper) (U.Stage.size s.upper) (U.Stage.at s.upper)) (L.MarkedStage.markers s.lower) (U.MarkedStage.markers s.upper) };
+    ghost markers = { λ s. piled_markers (L.Stage.meaning s.lower) (U.Stage.meaning s.upper) (L.MarkedStage.markers s.lower) (U.MarkedStage.markers s.upper) };
 
     fn marker_count(&self, n: usize) -> Result<usize, Refusal> {
         let middle = self.lower.length(n)?;

@@ -1,6 +1,5 @@
 // The calls of a receiver. Each answers what the rules say, and a refused one leaves everything as found.
 ghost use Rattle.std.specs.Prelude.{◌≡◌, ◌+◌, ◌-◌, ◌≤◌, length, replicate, pos};
-ghost use Rattle.stage.specs.Meaning.{meaning_of};
 ghost use Rattle.fit.specs.Fit.{best_start_answer};
 ghost use Rattle.receiver.specs.State.{opened, hear_answer, lose_answer, find_answer, begins, hears, loses, finds};
 ghost use Rattle.receiver.specs.Held.{memory_of, room, held, Follows, written};
@@ -99,7 +98,7 @@ impl<'a> Receiver<'a> {
 
     // Where a burst of n elements through a pile stands best among the values heard.
     fn best<M: MarkedStage>(&self, stage: &M, n: usize) -> Result<(usize, i32), Refusal>
-        ensures { result ≡ best_start_answer (meaning_of (M.Stage.takes stage.now) (M.Stage.size stage.now) (M.Stage.at stage.now)) (M.MarkedStage.markers stage.now) n (held self.now).standing }
+        ensures { result ≡ best_start_answer (M.Stage.meaning stage.now) (M.MarkedStage.markers stage.now) n (held self.now).standing }
     {
         let count = self.count;
         best_start(&self.values[0..count], stage, n)
@@ -107,8 +106,8 @@ impl<'a> Receiver<'a> {
 
     // Where a burst of m octets through a pile stands: the start is set to it, and answered with the fit there.
     pub fn find<M: MarkedStage>(&mut self, stage: &M, m: usize) -> Result<(usize, i32), Refusal>
-        ensures answer { result ≡ find_answer (held self.old) (meaning_of (M.Stage.takes stage.now) (M.Stage.size stage.now) (M.Stage.at stage.now)) (M.MarkedStage.markers stage.now) m }
-        ensures after { Follows self.old (finds (meaning_of (M.Stage.takes stage.now) (M.Stage.size stage.now) (M.Stage.at stage.now)) (M.MarkedStage.markers stage.now) m) self.new }
+        ensures answer { result ≡ find_answer (held self.old) (M.Stage.meaning stage.now) (M.MarkedStage.markers stage.now) m }
+        ensures after { Follows self.old (finds (M.Stage.meaning stage.now) (M.MarkedStage.markers stage.now) m) self.new }
     {
         let n = coded_count(m)?;
         let best = self.best(stage, n)?;

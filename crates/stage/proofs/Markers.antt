@@ -8,7 +8,7 @@ use Rattle.stage.specs.declared.Content.{Content}
 use Rattle.stage.specs.declared.Content.TheVariants.{Carried, Inverted, Fixed, Mute}
 use Rattle.stage.specs.declared.Marker.{Marker}
 use Rattle.stage.specs.Elements.{inverse}
-use Rattle.stage.specs.Marked.{no_marker, Apart, Told, count_answer, marker_answer}
+use Rattle.stage.specs.Marked.{no_marker, Apart, Told, Marked, count_answer, marker_answer}
 use Rattle.stage.specs.Meaning.{Meaning, carries, Stands, Homes, length_answer}
 use Rattle.stage.specs.Piled.{over, piled, bit_over, moved, moved_answer, piled_markers}
 use Rattle.stage.proofs.Homes.{parts_take, home_holds}
@@ -46,9 +46,9 @@ at_most f (suc c) (suc s) low apart =
     omega arith
 
 -- markers that are apart and told are at most as many as the places
-pub markers_fit : (m : Meaning) (markers : ℕ → List Marker) (n : ℕ) → T (m.takes n) → Apart m.takes markers n → Told m markers n → length (markers n) ≤ m.size n
-markers_fit m markers n t apart told =
-    at_most (λ k. (get_or (markers n) k no_marker).place) (length (markers n)) (m.size n) (λ k h. (told t k h).0) (apart t)
+pub markers_fit : (m : Meaning) (markers : ℕ → List Marker) (n : ℕ) → T (m.takes n) → Marked m markers n → length (markers n) ≤ m.size n
+markers_fit m markers n t marked =
+    at_most (λ k. (get_or (markers n) k no_marker).place) (length (markers n)) (m.size n) (λ k h. (marked.1 t k h).0) (marked.0 t)
 
 -- a content carries one element at most
 carries_one : (c : Content) (i j : ℕ) → T (carries c i) → T (carries c j) → i ≡ j
@@ -112,7 +112,7 @@ module _ (l u : Meaning) (hu : Homes u) (lm um : ℕ → List Marker) (n : ℕ) 
       let f = (tu (parts_take l u n t).1 j hj).1 in
       subst (λ c. T (carries c (get_or (lm n) k no_marker).place)) (ap (u.at (l.size n)) (sym e) ∙ f) s
 
-  both_lower : Apart l.takes lm n → Told l lm n → (j k : ℕ) → j < length (lm n) → k < length (lm n) → (moved u (l.size n) (get_or (lm n) j no_marker)).place ≡ (moved u (l.size n) (get_or (lm n) k no_marker)).place → j ≡ k
+  both_lower : Apart l lm n → Told l lm n → (j k : ℕ) → j < length (lm n) → k < length (lm n) → (moved u (l.size n) (get_or (lm n) j no_marker)).place ≡ (moved u (l.size n) (get_or (lm n) k no_marker)).place → j ≡ k
   both_lower al tl j k hj hk e =
       let a = (marker_stands tl j hj).1 in
       let b = (marker_stands tl k hk).1 in
@@ -120,7 +120,7 @@ module _ (l u : Meaning) (hu : Homes u) (lm um : ℕ → List Marker) (n : ℕ) 
       (carries_one _ _ _ a (subst (λ p. T (carries (u.at (l.size n) p) (get_or (lm n) k no_marker).place)) (sym e) b))
 
   -- the markers of a pile are apart
-  pub pile_apart : Apart l.takes lm n → Apart u.takes um (l.size n) → Told l lm n → Told u um (l.size n) → Apart (piled l u).takes (piled_markers l u lm um) n
+  pub pile_apart : Apart l lm n → Apart u um (l.size n) → Told l lm n → Told u um (l.size n) → Apart (piled l u) (piled_markers l u lm um) n
   pile_apart al au tl tu _ j k hj hk e =
       let c = length (um (l.size n)) in
       let total = count_piled l u lm um n in
@@ -138,25 +138,25 @@ module _ (l u : Meaning) (hu : Homes u) (lm um : ℕ → List Marker) (n : ℕ) 
       (cases_lt j c)
 
 -- an answered count: n is taken, and it is the number of markers
-pub count_told : (takes : ℕ → Bool) (markers : ℕ → List Marker) (n c : ℕ) → Ok c ≡ count_answer takes markers n → T (takes n) × (c ≡ length (markers n))
-count_told takes markers n c q =
-    let p = passed (not (takes n)) _ _ c q in
-    (taken (takes n) p.0, same_ok c (length (markers n)) p.1)
+pub count_told : (s : Meaning) (markers : ℕ → List Marker) (n c : ℕ) → Ok c ≡ count_answer s markers n → T (s.takes n) × (c ≡ length (markers n))
+count_told s markers n c q =
+    let p = passed (not (s.takes n)) _ _ c q in
+    (taken (s.takes n) p.0, same_ok c (length (markers n)) p.1)
 
 -- an answered marker: n is taken, the marker exists, and it is that one
-pub marker_told : (takes : ℕ → Bool) (markers : ℕ → List Marker) (n k : ℕ) (m : Marker) → Ok m ≡ marker_answer takes markers n k → T (takes n) × (k < length (markers n)) × (m ≡ get_or (markers n) k no_marker)
-marker_told takes markers n k m q =
-    let a = passed (not (takes n)) _ _ m q in
+pub marker_told : (s : Meaning) (markers : ℕ → List Marker) (n k : ℕ) (m : Marker) → Ok m ≡ marker_answer s markers n k → T (s.takes n) × (k < length (markers n)) × (m ≡ get_or (markers n) k no_marker)
+marker_told s markers n k m q =
+    let a = passed (not (s.takes n)) _ _ m q in
     let b = passed (leb (length (markers n)) k) _ _ m a.1 in
-    (taken (takes n) a.0, leb-false (length (markers n)) k b.0, same_ok m (get_or (markers n) k no_marker) b.1)
+    (taken (s.takes n) a.0, leb-false (length (markers n)) k b.0, same_ok m (get_or (markers n) k no_marker) b.1)
 
 -- a count that is taken has its number of markers answered
-pub count_there : (takes : ℕ → Bool) (markers : ℕ → List Marker) (n : ℕ) → T (takes n) → count_answer takes markers n ≡ Ok (length (markers n))
-count_there takes markers n t = rw (is_true (takes n) t)
+pub count_there : (s : Meaning) (markers : ℕ → List Marker) (n : ℕ) → T (s.takes n) → count_answer s markers n ≡ Ok (length (markers n))
+count_there s markers n t = rw (is_true (s.takes n) t)
 
 -- an existing marker of a count that is taken is answered
-pub marker_there : (takes : ℕ → Bool) (markers : ℕ → List Marker) (n k : ℕ) → T (takes n) → k < length (markers n) → marker_answer takes markers n k ≡ Ok (get_or (markers n) k no_marker)
-marker_there takes markers n k t h = rw (is_true (takes n) t, lt-leb (length (markers n)) k h)
+pub marker_there : (s : Meaning) (markers : ℕ → List Marker) (n k : ℕ) → T (s.takes n) → k < length (markers n) → marker_answer s markers n k ≡ Ok (get_or (markers n) k no_marker)
+marker_there s markers n k t h = rw (is_true (s.takes n) t, lt-leb (length (markers n)) k h)
 
 -- a marker among the elements that enter is answered where it leaves
 moved_there : (u : Meaning) (n : ℕ) (m : Marker) → T (u.takes n) → m.place < n → moved_answer u n m ≡ Ok (moved u n m)
@@ -168,67 +168,66 @@ module _ (l u : Meaning) (lm um : ℕ → List Marker) (n k : ℕ) (length-is : 
   at_length P p = subst P (length_told l n k length-is).1 p
 
   -- the counts of a pile's parts are small enough to add
-  pub counts_fit : Homes l → Homes u → (a b : ℕ) → Ok a ≡ count_answer u.takes um k → Ok b ≡ count_answer l.takes lm n → Apart u.takes um k → Told u um k → Apart l.takes lm n → Told l lm n → a + b ≤ 65536
-  counts_fit hl hu a b qa qb au tu al tl =
-      let x = count_told u.takes um k a qa in
-      let y = count_told l.takes lm n b qb in
-      omega (arith, x.1, y.1, markers_fit u um k x.0 au tu, markers_fit l lm n y.0 al tl, hu.most k x.0, hl.most n y.0)
+  pub counts_fit : Homes l → Homes u → (a b : ℕ) → Ok a ≡ count_answer u um k → Ok b ≡ count_answer l lm n → Marked u um k → Marked l lm n → a + b ≤ 65536
+  counts_fit hl hu a b qa qb mu ml =
+      let x = count_told u um k a qa in
+      let y = count_told l lm n b qb in
+      omega (arith, x.1, y.1, markers_fit u um k x.0 mu, markers_fit l lm n y.0 ml, hu.most k x.0, hl.most n y.0)
 
-  both_take : (a : ℕ) → Ok a ≡ count_answer u.takes um k → T ((piled l u).takes n)
+  both_take : (a : ℕ) → Ok a ≡ count_answer u um k → T ((piled l u).takes n)
   both_take a qa =
-      pile_takes l u n (length_told l n k length-is).0 (at_length (λ x. T (u.takes x)) (count_told u.takes um k a qa).0)
+      pile_takes l u n (length_told l n k length-is).0 (at_length (λ x. T (u.takes x)) (count_told u um k a qa).0)
 
   -- the count of a pile's markers is the sum of its parts' counts
-  pub count_sum : (a b : ℕ) → Ok a ≡ count_answer u.takes um k → Ok b ≡ count_answer l.takes lm n → Ok (a + b) ≡ count_answer (piled l u).takes (piled_markers l u lm um) n
+  pub count_sum : (a b : ℕ) → Ok a ≡ count_answer u um k → Ok b ≡ count_answer l lm n → Ok (a + b) ≡ count_answer (piled l u) (piled_markers l u lm um) n
   count_sum a b qa qb =
       let t = both_take a qa in
-      let x = at_length (λ z. a ≡ length (um z)) (count_told u.takes um k a qa).1 in
-      let y = (count_told l.takes lm n b qb).1 in
+      let x = at_length (λ z. a ≡ length (um z)) (count_told u um k a qa).1 in
+      let y = (count_told l lm n b qb).1 in
       ap Ok (ap (λ z. z + b) x ∙ ap (λ z. length (um (l.size n)) + z) y ∙ sym (count_piled l u lm um n))
-      ∙ sym (count_there (piled l u).takes (piled_markers l u lm um) n t)
+      ∙ sym (count_there (piled l u) (piled_markers l u lm um) n t)
 
-  pub told_sum : Homes u → Told u um k → Told l lm n → Told (piled l u) (piled_markers l u lm um) n
-  told_sum hu tu tl t = pile_told l u hu lm um n t tl (at_length (λ z. Told u um z) tu) t
-
-  pub apart_sum : Homes u → Apart u.takes um k → Told u um k → Apart l.takes lm n → Told l lm n → Apart (piled l u).takes (piled_markers l u lm um) n
-  apart_sum hu au tu al tl t =
-      pile_apart l u hu lm um n t al (at_length (λ z. Apart u.takes um z) au) tl (at_length (λ z. Told u um z) tu) t
+  -- the markers of a pile stand apart and hold their bits, as its parts' do
+  pub marked_sum : Homes u → Marked u um k → Marked l lm n → Marked (piled l u) (piled_markers l u lm um) n
+  marked_sum hu mu ml =
+      let above : Marked u um (l.size n) = at_length (Marked u um) mu in
+      (λ t. pile_apart l u hu lm um n t ml.0 above.0 ml.1 above.1 t, λ t. pile_told l u hu lm um n t ml.1 above.1 t)
 
   -- an index below the upper's count is that of the upper's marker
-  pub marker_above : (a i : ℕ) → Ok a ≡ count_answer u.takes um k → i < a → marker_answer u.takes um k i ≡ marker_answer (piled l u).takes (piled_markers l u lm um) n i
+  pub marker_above : (a i : ℕ) → Ok a ≡ count_answer u um k → i < a → marker_answer u um k i ≡ marker_answer (piled l u) (piled_markers l u lm um) n i
   marker_above a i qa h =
       let t = both_take a qa in
-      let x = at_length (λ z. a ≡ length (um z)) (count_told u.takes um k a qa).1 in
+      let x = at_length (λ z. a ≡ length (um z)) (count_told u um k a qa).1 in
       let total = count_piled l u lm um n in
       let low : i < length (um (l.size n)) = omega arith in
       let all : i < length (piled_markers l u lm um n) = omega arith in
-      ap (λ z. marker_answer u.takes um z i) (length_told l n k length-is).1
-      ∙ marker_there u.takes um (l.size n) i (parts_take l u n t).1 low ∙ ap Ok (sym (upper_at l u lm um n i low))
-      ∙ sym (marker_there (piled l u).takes (piled_markers l u lm um) n i t all)
+      ap (λ z. marker_answer u um z i) (length_told l n k length-is).1
+      ∙ marker_there u um (l.size n) i (parts_take l u n t).1 low ∙ ap Ok (sym (upper_at l u lm um n i low))
+      ∙ sym (marker_there (piled l u) (piled_markers l u lm um) n i t all)
 
   -- an index from there on is that of a marker of the lower, moved up
-  pub marker_below : (a i : ℕ) (m : Marker) → Ok a ≡ count_answer u.takes um k → Ok m ≡ marker_answer l.takes lm n (i - a) → Told l lm n → a ≤ i → moved_answer u k m ≡ marker_answer (piled l u).takes (piled_markers l u lm um) n i
-  marker_below a i m qa qm tl h =
+  pub marker_below : (a i : ℕ) (m : Marker) → Ok a ≡ count_answer u um k → Ok m ≡ marker_answer l lm n (i - a) → Marked l lm n → a ≤ i → moved_answer u k m ≡ marker_answer (piled l u) (piled_markers l u lm um) n i
+  marker_below a i m qa qm ml h =
       let t = both_take a qa in
-      let w = marker_told l.takes lm n (i - a) m qm in
-      let x = at_length (λ z. a ≡ length (um z)) (count_told u.takes um k a qa).1 in
+      let w = marker_told l lm n (i - a) m qm in
+      let x = at_length (λ z. a ≡ length (um z)) (count_told u um k a qa).1 in
       let total = count_piled l u lm um n in
-      let inside : m.place < l.size n = subst (λ (z : Marker). z.place < l.size n) (sym w.2) (tl w.0 (i - a) w.1).0 in
+      let inside : m.place < l.size n = subst (λ (z : Marker). z.place < l.size n) (sym w.2) (ml.1 w.0 (i - a) w.1).0 in
       let all : i < length (piled_markers l u lm um n) = omega (arith, w.1) in
       let here : m ≡ get_or (lm n) (i - length (um (l.size n))) no_marker = w.2 ∙ ap (λ z. get_or (lm n) (i - z) no_marker) x in
       let low : i - length (um (l.size n)) < length (lm n) = omega (arith, w.1) in
       ap (λ z. moved_answer u z m) (length_told l n k length-is).1
       ∙ moved_there u (l.size n) m (parts_take l u n t).1 inside
       ∙ ap (λ z. Ok (moved u (l.size n) z)) here ∙ ap Ok (sym (lower_at l u lm um n i (omega arith) low))
-      ∙ sym (marker_there (piled l u).takes (piled_markers l u lm um) n i t all)
+      ∙ sym (marker_there (piled l u) (piled_markers l u lm um) n i t all)
 
   -- where the pile has a marker that is not the upper's, the lower does not refuse it
-  pub marker_not_refused : (a c i : ℕ) (e : Refusal) → Ok a ≡ count_answer u.takes um k → Ok c ≡ count_answer (piled l u).takes (piled_markers l u lm um) n → a ≤ i → i < c → Err e ≡ marker_answer l.takes lm n (i - a) → ⊥
+  pub marker_not_refused : (a c i : ℕ) (e : Refusal) → Ok a ≡ count_answer u um k → Ok c ≡ count_answer (piled l u) (piled_markers l u lm um) n → a ≤ i → i < c → Err e ≡ marker_answer l lm n (i - a) → ⊥
   marker_not_refused a c i e qa qc h b q =
-      let x = at_length (λ z. a ≡ length (um z)) (count_told u.takes um k a qa).1 in
-      let y = (count_told (piled l u).takes (piled_markers l u lm um) n c qc).1 in
+      let x = at_length (λ z. a ≡ length (um z)) (count_told u um k a qa).1 in
+      let y = (count_told (piled l u) (piled_markers l u lm um) n c qc).1 in
       let total = count_piled l u lm um n in
       let low : i - a < length (lm n) = omega arith in
-      let ok = marker_there l.takes lm n (i - a) (length_told l n k length-is).0 low in
+      let ok = marker_there l lm n (i - a) (length_told l n k length-is).0 low in
       let z : ◌≡◌ {A = ℕ} 0 1 = cc in
       omega arith

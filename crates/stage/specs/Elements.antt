@@ -1,5 +1,4 @@
 -- Elements on their way: what leaves a stage when given elements enter it.
--- Assumes nothing.
 use Rattle.std.specs.Prelude.{ℕ, Bool, true, false, not, List, map, length, slice_index_or}
 use Rattle.std.specs.List.{range_with_len}
 use Rattle.stage.specs.declared.Content.{Content}

@@ -1,5 +1,4 @@
 -- What a pile of a lower and an upper stage means: what leaves the lower enters the upper.
--- Assumes nothing.
 use Rattle.std.specs.Prelude.{◌≡◌, ℕ, Bool, not, ◌&&◌, T, List, ◌++◌, map, length, Ok, Result, nat_le}
 use Rattle.refusal.specs.declared.Refusal.{Refusal}
 use Rattle.refusal.specs.declared.Refusal.TheVariants.{NoSuchPlace, CountNotTaken}

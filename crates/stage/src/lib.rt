@@ -1,14 +1,17 @@
 // What a stage is: how elements on their way out are moved, inverted and joined by others.
 #![tactic(auto)]
 
-ghost use Rattle.std.specs.Prelude.{◌≡◌, ℕ, Bool, List};
+ghost use Rattle.std.specs.Prelude.{◌≡◌, ◌<◌, ℕ, Bool, List, not, nat_le, Ok, OnOk};
+ghost use Rattle.refusal.specs.Answer.{refused_when};
+ghost use Rattle.refusal.specs.declared.Refusal.TheVariants.{NoSuchPlace, CountNotTaken};
 ghost use Rattle.stage.specs.declared.Content.{Content as ContentOf};
-ghost use Rattle.stage.specs.Meaning.{Homes, meaning_of, length_answer, content_answer, home_answer};
+ghost use Rattle.stage.specs.Meaning.{Meaning, Homes, meaning_of, length_answer, content_answer, home_answer};
 ghost use Rattle.stage.specs.declared.Marker.{Marker as MarkerOf};
 ghost use Rattle.stage.specs.Elements.{octet_of, element_of, inverse};
-ghost use Rattle.stage.specs.Marked.{Apart, Told, count_answer, marker_answer};
+ghost use Rattle.stage.specs.Marked.{Marked, count_answer, marker_answer};
 
 use refusal::Refusal;
+use std::ops::Not;
 
 // What stands at an outgoing place.
 #[derive(Clone, Copy, PartialEq, Eq, Debug)]
@@ -23,11 +26,13 @@ pub enum Content {
     Mute,
 }
 
-impl Content {
-    // The content with all that can stand there inverted.
-    pub fn inverted(self) -> Content
-        ensures { result ≡ inverse self }
-    {
+// `!content` inverts all that can stand there.
+impl Not for Content {
+    type Output = Content;
+
+    ghost not_gives = { λ content r. r ≡ inverse content };
+
+    fn not(self) -> Content {
         match self {
             Content::Carried(i) => Content::Inverted(i),
             Content::Inverted(i) => Content::Carried(i),
@@ -45,19 +50,21 @@ pub enum Element {
     Mute,
 }
 
-impl Element {
-    // The element of a bit.
-    pub fn of_bit(bit: bool) -> Element
-        ensures { result ≡ element_of bit }
-    {
+// The element of a bit.
+impl From<bool> for Element {
+    ghost from_gives = { λ bit r. r ≡ element_of bit };
+
+    fn from(bit: bool) -> Element {
         if bit { Element::One } else { Element::Zero }
     }
+}
 
-    // The octet that stands for the element in memory.
-    pub fn octet(self) -> u8
-        ensures { result ≡ octet_of self }
-    {
-        match self {
+// The octet that stands for an element in memory.
+impl From<Element> for u8 {
+    ghost from_gives = { λ element r. r ≡ octet_of element };
+
+    fn from(element: Element) -> u8 {
+        match element {
             Element::Zero => 0,
             Element::One => 1,
             Element::Mute => 2,
@@ -76,20 +83,26 @@ pub trait Stage {
     // what stands at each outgoing place
     ghost at: { Self → ℕ → ℕ → ContentOf };
 
+    // the three together: all that is said above a stage is said of its meaning
+    ghost meaning: { Self → Meaning };
+
+    // the meaning is the three and nothing else
+    ghost whole: { (s : Self) → meaning s ≡ meaning_of (takes s) (size s) (at s) };
+
     // its homes fit
-    ghost homes: { (s : Self) → Homes (meaning_of (takes s) (size s) (at s)) };
+    ghost homes: { (s : Self) → Homes (meaning s) };
 
     // How many elements leave when n enter.
     fn length(&self, n: usize) -> Result<usize, Refusal>
-        ensures { result ≡ length_answer (meaning_of (takes self.now) (size self.now) (at self.now)) n };
+        ensures { result ≡ length_answer (meaning self.now) n };
 
     // What stands at an outgoing place when n elements enter.
     fn content(&self, n: usize, place: usize) -> Result<Content, Refusal>
-        ensures { result ≡ content_answer (meaning_of (takes self.now) (size self.now) (at self.now)) n place };
+        ensures { result ≡ content_answer (meaning self.now) n place };
 
     // The place where an incoming element stands when n enter.
     fn home(&self, n: usize, element: usize) -> Result<usize, Refusal>
-        ensures { result ≡ home_answer (meaning_of (takes self.now) (size self.now) (at self.now)) n element };
+        ensures { result ≡ home_answer (meaning self.now) n element };
 }
 
 // A fixed bit of a stage's own by which a burst can be found.
@@ -106,12 +119,32 @@ pub trait MarkedStage: Stage {
 
     // How many markers there are when n elements enter. They stand at different places, each of which holds its bit.
     fn marker_count(&self, n: usize) -> Result<usize, Refusal>
-        ensures count { result ≡ count_answer (Self.Stage.takes self.now) (markers self.now) n }
-        ensures apart { Apart (Self.Stage.takes self.now) (markers self.now) n }
-        ensures fixed { Told (meaning_of (Self.Stage.takes self.now) (Self.Stage.size self.now) (Self.Stage.at self.now)) (markers self.now) n };
+        ensures count { result ≡ count_answer (Self.Stage.meaning self.now) (markers self.now) n }
+        ensures marked { Marked (Self.Stage.meaning self.now) (markers self.now) n };
 
-    // The marker with an index when n elements enter. Its place holds its bit.
+    // The marker with an index when n elements enter.
     fn marker(&self, n: usize, index: usize) -> Result<Marker, Refusal>
-        ensures value { result ≡ marker_answer (Self.Stage.takes self.now) (markers self.now) n index }
-        ensures fixed { Told (meaning_of (Self.Stage.takes self.now) (Self.Stage.size self.now) (Self.Stage.at self.now)) (markers self.now) n };
+        ensures value { result ≡ marker_answer (Self.Stage.meaning self.now) (markers self.now) n index }
+        ensures marked { Marked (Self.Stage.meaning self.now) (markers self.now) n };
+}
+
+// Refuses a count of incoming elements above the most that a stage takes.
+pub fn check_count(n: usize, most: usize) -> Result<(), Refusal>
+    ensures { result ≡ refused_when (not (nat_le n most)) CountNotTaken (Ok tt) }
+{
+    if n > most {
+        return Err(Refusal::CountNotTaken);
+    }
+    Ok(())
+}
+
+// Refuses an index that is not below the count of what it names: places, elements or markers.
+pub fn check_index(index: usize, count: usize) -> Result<(), Refusal>
+    ensures answer { result ≡ refused_when (nat_le count index) NoSuchPlace (Ok tt) }
+    ensures below { OnOk result (index < count) }
+{
+    if index >= count {
+        return Err(Refusal::NoSuchPlace);
+    }
+    Ok(())
 }

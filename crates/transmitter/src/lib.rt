@@ -4,7 +4,6 @@
 ghost use Rattle.std.specs.Prelude.{◌≡◌, map, length};
 ghost use Rattle.refusal.specs.Answer.{after};
 ghost use Rattle.stage.specs.Elements.{octet_of};
-ghost use Rattle.stage.specs.Meaning.{meaning_of};
 ghost use Rattle.transmitter.specs.Burst.{burst, write_answer, element_answer};
 
 use code::{coded_bit, coded_count};
@@ -26,8 +25,8 @@ fn element(content: Content, text: &[u8]) -> Result<Element, Refusal>
 // Writes the burst of the text through the stage into the first places of `out`, an octet for each element, in one
 // pass, and answers its length.
 pub fn write<S: Stage>(stage: &S, text: &[u8], out: &mut [u8]) -> Result<usize, Refusal>
-    ensures answer { result ≡ write_answer (meaning_of (S.Stage.takes stage.now) (S.Stage.size stage.now) (S.Stage.at stage.now)) text.now (length out.old) }
-    ensures memory { out.new ≡ after result (map octet_of (burst (meaning_of (S.Stage.takes stage.now) (S.Stage.size stage.now) (S.Stage.at stage.now)) text.now)) out.old }
+    ensures answer { result ≡ write_answer (S.Stage.meaning stage.now) text.now (length out.old) }
+    ensures memory { out.new ≡ after result (map octet_of (burst (S.Stage.meaning stage.now) text.now)) out.old }
 {
     let n = coded_count(text.len())?;
     let length = stage.length(n)?;

@@ -1,31 +1,18 @@
 // The wire: a stage that passes all elements on.
 #![tactic(auto)]
 
-ghost use Rattle.std.specs.Prelude.{◌≡◌, not, Ok};
-ghost use Rattle.refusal.specs.Answer.{refused_when};
-ghost use Rattle.refusal.specs.declared.Refusal.TheVariants.{CountNotTaken};
+ghost use Rattle.std.proofs.Common.{refl};
 ghost use Rattle.wire.specs.Homes.{wire_homes};
 ghost use Rattle.wire.specs.Wire.{wire, wire_markers};
 
 use refusal::Refusal;
-use stage::{Content, MarkedStage, Marker, Stage};
+use stage::{Content, MarkedStage, Marker, Stage, check_count, check_index};
 
 // The most elements that the wire takes.
 pub const MOST_ELEMENTS: usize = 10_000;
 
 #[derive(Clone, Copy)]
 pub struct Wire;
-
-// Refuses a count that the wire does not take.
-fn check_count(n: usize) -> Result<(), Refusal>
-    ensures { result ≡ refused_when (not (wire.takes n)) CountNotTaken (Ok tt) }
-{
-    if n > MOST_ELEMENTS {
-        Err(Refusal::CountNotTaken)
-    } else {
-        Ok(())
-    }
-}
 
 impl Stage for Wire {
     ghost takes = { λ _. wire.takes };
@@ -34,29 +21,27 @@ impl Stage for Wire {
 
     ghost at = { λ _. wire.at };
 
+    ghost meaning = { λ _. wire };
+
+    ghost whole = { λ _. refl };
+
     ghost homes = { λ _. wire_homes };
 
     fn length(&self, n: usize) -> Result<usize, Refusal> {
-        check_count(n)?;
+        check_count(n, MOST_ELEMENTS)?;
         Ok(n)
     }
 
     fn content(&self, n: usize, place: usize) -> Result<Content, Refusal> {
-        check_count(n)?;
-        if place < n {
-            Ok(Content::Carried(place))
-        } else {
-            Err(Refusal::NoSuchPlace)
-        }
+        check_count(n, MOST_ELEMENTS)?;
+        check_index(place, n)?;
+        Ok(Content::Carried(place))
     }
 
     fn home(&self, n: usize, element: usize) -> Result<usize, Refusal> {
-        check_count(n)?;
-        if element < n {
-            Ok(element)
-        } else {
-            Err(Refusal::NoSuchPlace)
-        }
+        check_count(n, MOST_ELEMENTS)?;
+        check_index(element, n)?;
+        Ok(element)
     }
 }
 
@@ -64,7 +49,7 @@ impl MarkedStage for Wire {
     ghost markers = { λ _. wire_markers };
 
     fn marker_count(&self, n: usize) -> Result<usize, Refusal> {
-        check_count(n)?;
+        check_count(n, MOST_ELEMENTS)?;
         Ok(0)
     }
 

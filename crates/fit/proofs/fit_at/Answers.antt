@@ -1,7 +1,6 @@
 use Rattle.std.proofs.Common.{◌≡◌, ◌+◌, ◌<◌, ◌≤◌, cond, length, get_or, ℤ, pos, neg_ℤ, Ok, ap, ◌∙◌, arith, w8, SFits, rules}
 use Rattle.std.proofs.lemmas.List.{take_all}
 use Rattle.std.proofs.lemmas.Int.{to_z-of_z}
-use Rattle.stage.specs.Meaning.{meaning_of}
 use Rattle.fit.specs.Fit.{fit, agreement}
 use Rattle.fit.proofs.Few.{few_markers}
 use Rattle.fit.proofs.Steps.{told_marker, fit_more, sum_kept, sum_low, sum_high}
@@ -18,7 +17,7 @@ loop-index-preserved g c =
     let told = told_marker (g.M.Stage.takes s) marks n i c.marker.result c.in_ok-marker.marker c.requires.takes below c.marker.ensures.value c.in_ok-marker.was in
     let most = (g.M.Stage.homes s).most n c.requires.takes in
     let few : length (marks n) ≤ 32768 =
-    few_markers (meaning_of (g.M.Stage.takes s) (g.M.Stage.size s) (g.M.Stage.at s)) marks n c.requires.takes most c.requires.apart c.in_ok-marker.ensures.fixed in
+    few_markers (g.M.Stage.meaning s) marks n c.requires.takes most c.requires.apart c.in_ok-marker.ensures.fixed in
     let v : ℤ = get_or c.args.values.now (c.args.start + c.in_ok-marker.marker.place) (pos 0) in
     let fits : SFits w8 v = search rules in
     let agrees : c.agreement-sum.result ≡ agreement c.args.values.now c.args.start c.in_ok-marker.marker =

@@ -1,20 +1,19 @@
 use Rattle.std.proofs.Common.{◌≡◌, ◌+◌, ◌<◌, length, set, refl, ap, ◌∙◌, arith}
 use Rattle.refusal.proofs.Front.{filled, filled_more}
-use Rattle.stage.specs.Meaning.{meaning_of}
 use Rattle.transmitter.proofs.Octets.{octet_at, place_octet, place_not_refused, write_there, all_filled}
 use Rattle.transmitter.proofs.write.Goals as goal
 
 pub returns-in_err-element : goal.returns-in_err-element
 returns-in_err-element g c =
     let s = c.args.stage.now in
-    absurd (place_not_refused (meaning_of (g.S.Stage.takes s) (g.S.Stage.size s) (g.S.Stage.at s)) (g.S.Stage.homes s)
+    absurd (place_not_refused (g.S.Stage.meaning s) (g.S.Stage.homes s)
     c.args.text.now c.in_ok-n.n c.in_ok-n.ensures c.loop-place.place c.in_ok-content.field-0
     c.in_err-element.field-0.0 c.in_ok-content.ensures c.in_err-element.ensures)
 
 pub loop-place-preserved : goal.loop-place-preserved
 loop-place-preserved g c =
     let s = c.args.stage.now in
-    let m = meaning_of (g.S.Stage.takes s) (g.S.Stage.size s) (g.S.Stage.at s) in
+    let m = g.S.Stage.meaning s in
     let p = c.loop-place.place in
     let x = c.octet.result in
     let within : p < length c.args.out.now = omega arith in
@@ -27,7 +26,7 @@ loop-place-preserved g c =
 pub returns : goal.returns
 returns g c =
     let s = c.args.stage.now in
-    let m = meaning_of (g.S.Stage.takes s) (g.S.Stage.size s) (g.S.Stage.at s) in
+    let m = g.S.Stage.meaning s in
     let text = c.args.text.now in
     let out = c.args.out.now in
     let len = c.in_ok-length.length in

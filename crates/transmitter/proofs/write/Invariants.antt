@@ -1,10 +1,9 @@
 use Rattle.std.proofs.Common.{◌≡◌}
 use Rattle.refusal.proofs.Front.{filled}
-use Rattle.stage.specs.Meaning.{meaning_of}
 use Rattle.transmitter.proofs.Octets.{octet_at}
 use Rattle.transmitter.proofs.write.Given as goal
 
 -- the places before hold the burst's octets, and the rest is as found
 abbrev pub invariant-loop-place : goal.invariant-loop-place
 invariant-loop-place g l =
-    l.out ≡ filled (octet_at (meaning_of (g.S.Stage.takes l.stage) (g.S.Stage.size l.stage) (g.S.Stage.at l.stage)) l.text) l.place l.initial.out
+    l.out ≡ filled (octet_at (g.S.Stage.meaning l.stage) l.text) l.place l.initial.out

@@ -1,5 +1,4 @@
 use Rattle.std.proofs.Common.{refl}
-use Rattle.stage.specs.Meaning.{meaning_of}
 use Rattle.stage.proofs.Leaving.{enters}
 use Rattle.pile.proofs.Pile.new.Goals as goal
 
@@ -9,6 +8,6 @@ returns g c =
     let upper = c.args.upper in
     record {
       value = (refl, refl);
-      enters = enters (meaning_of (g.L.Stage.takes lower) (g.L.Stage.size lower) (g.L.Stage.at lower))
-          (meaning_of (g.U.Stage.takes upper) (g.U.Stage.size upper) (g.U.Stage.at upper)) (g.U.Stage.homes upper);
+      enters = enters (g.L.Stage.meaning lower)
+          (g.U.Stage.meaning upper) (g.U.Stage.homes upper);
     }

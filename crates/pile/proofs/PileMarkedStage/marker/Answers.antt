@@ -1,5 +1,4 @@
 use Rattle.std.proofs.Common.{◌∙◌}
-use Rattle.stage.specs.Meaning.{meaning_of}
 use Rattle.stage.proofs.Markers.{marker_above, marker_below, marker_not_refused}
 use Rattle.pile.proofs.PileMarkedStage.marker.Goals as goal
 
@@ -9,8 +8,8 @@ returns-then-index-above g c =
     let upper = c.args.self.now.upper in
     record {
       value = c.marker.ensures.value
-          ∙ marker_above (meaning_of (g.L.Stage.takes lower) (g.L.Stage.size lower) (g.L.Stage.at lower))
-          (meaning_of (g.U.Stage.takes upper) (g.U.Stage.size upper) (g.U.Stage.at upper))
+          ∙ marker_above (g.L.Stage.meaning lower)
+          (g.U.Stage.meaning upper)
           (g.L.MarkedStage.markers lower) (g.U.MarkedStage.markers upper) c.args.n c.in_ok-middle.middle
           c.in_ok-middle.ensures c.in_ok-above.above c.args.index
           c.in_ok-above.ensures.count c.if-index-above.true;
@@ -21,8 +20,8 @@ pub returns-in_err-marker : goal.returns-in_err-marker
 returns-in_err-marker g c =
     let lower = c.args.self.now.lower in
     let upper = c.args.self.now.upper in
-    absurd (marker_not_refused (meaning_of (g.L.Stage.takes lower) (g.L.Stage.size lower) (g.L.Stage.at lower))
-    (meaning_of (g.U.Stage.takes upper) (g.U.Stage.size upper) (g.U.Stage.at upper))
+    absurd (marker_not_refused (g.L.Stage.meaning lower)
+    (g.U.Stage.meaning upper)
     (g.L.MarkedStage.markers lower) (g.U.MarkedStage.markers upper) c.args.n c.in_ok-middle.middle
     c.in_ok-middle.ensures c.in_ok-above.above c.in_ok-marker_count.field-0 c.args.index
     c.in_err-marker.field-0.0 c.in_ok-above.ensures.count c.in_ok-marker_count.ensures.count
@@ -34,8 +33,8 @@ returns g c =
     let upper = c.args.self.now.upper in
     record {
       value = c.moved_up.ensures
-          ∙ marker_below (meaning_of (g.L.Stage.takes lower) (g.L.Stage.size lower) (g.L.Stage.at lower))
-          (meaning_of (g.U.Stage.takes upper) (g.U.Stage.size upper) (g.U.Stage.at upper))
+          ∙ marker_below (g.L.Stage.meaning lower)
+          (g.U.Stage.meaning upper)
           (g.L.MarkedStage.markers lower) (g.U.MarkedStage.markers upper) c.args.n c.in_ok-middle.middle
           c.in_ok-middle.ensures c.in_ok-above.above c.args.index c.in_ok-marker.field-0
           c.in_ok-above.ensures.count c.in_ok-marker.ensures.value

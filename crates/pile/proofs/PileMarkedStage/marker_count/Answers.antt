@@ -1,5 +1,4 @@
 use Rattle.std.proofs.Common.{◌+◌, ◌≤◌, rules}
-use Rattle.stage.specs.Meaning.{meaning_of}
 use Rattle.stage.proofs.Markers.{counts_fit, count_sum, told_sum, apart_sum}
 use Rattle.pile.proofs.PileMarkedStage.marker_count.Goals as goal
 
@@ -8,8 +7,8 @@ overflow_add-result g c =
     let lower = c.args.self.now.lower in
     let upper = c.args.self.now.upper in
     let small : c.in_ok-above.above + c.in_ok-below.below ≤ 65536 = counts_fit
-    (meaning_of (g.L.Stage.takes lower) (g.L.Stage.size lower) (g.L.Stage.at lower))
-    (meaning_of (g.U.Stage.takes upper) (g.U.Stage.size upper) (g.U.Stage.at upper))
+    (g.L.Stage.meaning lower)
+    (g.U.Stage.meaning upper)
     (g.L.MarkedStage.markers lower) (g.U.MarkedStage.markers upper) c.args.n c.in_ok-middle.middle
     c.in_ok-middle.ensures (g.L.Stage.homes lower) (g.U.Stage.homes upper)
     c.in_ok-above.above c.in_ok-below.below
@@ -22,8 +21,8 @@ pub returns : goal.returns
 returns g c =
     let lower = c.args.self.now.lower in
     let upper = c.args.self.now.upper in
-    let l = meaning_of (g.L.Stage.takes lower) (g.L.Stage.size lower) (g.L.Stage.at lower) in
-    let u = meaning_of (g.U.Stage.takes upper) (g.U.Stage.size upper) (g.U.Stage.at upper) in
+    let l = g.L.Stage.meaning lower in
+    let u = g.U.Stage.meaning upper in
     let lm = g.L.MarkedStage.markers lower in
     let um = g.U.MarkedStage.markers upper in
     let n = c.args.n in

@@ -1,5 +1,4 @@
 use Rattle.std.proofs.Common.{Ok, sym, ap, ◌∙◌}
-use Rattle.stage.specs.Meaning.{meaning_of}
 use Rattle.stage.proofs.Answers.{content_carried, inverted_there}
 use Rattle.pile.proofs.PileStage.content.Goals as goal
 
@@ -7,8 +6,8 @@ pub returns-in_err-content-in-Inverted : goal.returns-in_err-content-in-Inverted
 returns-in_err-content-in-Inverted g c =
     let lower = c.args.self.now.lower in
     let upper = c.args.self.now.upper in
-    absurd (inverted_there (meaning_of (g.L.Stage.takes lower) (g.L.Stage.size lower) (g.L.Stage.at lower))
-    (meaning_of (g.U.Stage.takes upper) (g.U.Stage.size upper) (g.U.Stage.at upper)) (g.U.Stage.homes upper)
+    absurd (inverted_there (g.L.Stage.meaning lower)
+    (g.U.Stage.meaning upper) (g.U.Stage.homes upper)
     c.args.n c.args.place c.in_ok-middle.middle c.in-Inverted.j c.in_err-content-in-Inverted.field-0.0
     c.in_ok-middle.ensures (ap Ok (sym c.in-Inverted.is) ∙ c.in_ok-own.ensures)
     c.in_err-content-in-Inverted.ensures)
@@ -18,7 +17,7 @@ returns-in-Carried g c =
     let lower = c.args.self.now.lower in
     let upper = c.args.self.now.upper in
     c.content-in-Carried.ensures
-    ∙ content_carried (meaning_of (g.L.Stage.takes lower) (g.L.Stage.size lower) (g.L.Stage.at lower))
-    (meaning_of (g.U.Stage.takes upper) (g.U.Stage.size upper) (g.U.Stage.at upper)) (g.U.Stage.homes upper)
+    ∙ content_carried (g.L.Stage.meaning lower)
+    (g.U.Stage.meaning upper) (g.U.Stage.homes upper)
     c.args.n c.args.place c.in_ok-middle.middle c.in-Carried.j
     c.in_ok-middle.ensures (ap Ok (sym c.in-Carried.is) ∙ c.in_ok-own.ensures)

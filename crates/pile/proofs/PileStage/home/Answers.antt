@@ -1,5 +1,4 @@
 use Rattle.std.proofs.Common.{◌∙◌}
-use Rattle.stage.specs.Meaning.{meaning_of}
 use Rattle.stage.proofs.Answers.{home_through}
 use Rattle.pile.proofs.PileStage.home.Goals as goal
 
@@ -8,8 +7,8 @@ returns g c =
     let lower = c.args.self.now.lower in
     let upper = c.args.self.now.upper in
     c.home-2.ensures
-    ∙ home_through (meaning_of (g.L.Stage.takes lower) (g.L.Stage.size lower) (g.L.Stage.at lower))
-    (meaning_of (g.U.Stage.takes upper) (g.U.Stage.size upper) (g.U.Stage.at upper))
+    ∙ home_through (g.L.Stage.meaning lower)
+    (g.U.Stage.meaning upper)
     (g.L.Stage.homes lower) (g.U.Stage.homes upper) c.args.n c.args.element
     c.in_ok-middle.middle c.in_ok-length.field-0 c.in_ok-home.field-0
     c.in_ok-middle.ensures c.in_ok-length.ensures c.in_ok-home.ensures

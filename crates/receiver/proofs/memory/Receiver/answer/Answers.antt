@@ -1,5 +1,5 @@
 use Rattle.std.proofs.Common.{◌≡◌, sym, ap, ◌∙◌, subst}
-use Rattle.stage.specs.Meaning.{Meaning, meaning_of}
+use Rattle.stage.specs.Meaning.{Meaning}
 use Rattle.receiver.specs.declared.history.Call.{Call}
 use Rattle.receiver.specs.Held.{room, held, Follows}
 use Rattle.receiver.specs.History.{reply, answered, found, as_request, as_reply}
@@ -7,7 +7,7 @@ use Rattle.receiver.proofs.memory.Receiver.answer.Goals as goal
 
 pub returns-in-Find : goal.returns-in-Find
 returns-in-Find g c =
-    let meaning : g.row.M.Denot → Meaning = λ s. meaning_of (g.M.Stage.takes s) (g.M.Stage.size s) (g.M.Stage.at s) in
+    let meaning : g.row.M.Denot → Meaning = λ s. g.M.Stage.meaning s in
     let marks = g.M.MarkedStage.markers in
     let r = c.args.self.now in
     record {
