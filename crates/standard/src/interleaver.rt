@@ -29,10 +29,7 @@ pub struct Interleaver {
 fn is_scrambled(column: usize) -> bool
     ensures { result ≡ scrambled column }
 {
-    match column {
-        0 | 2 | 3 | 6 | 7 => true,
-        _ => false,
-    }
+    matches!(column, 0 | 2 | 3 | 6 | 7)
 }
 
 // The index of the preamble bit that stands at a place.
