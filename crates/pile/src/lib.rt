@@ -19,6 +19,7 @@ pub struct Pile<L, U> {
 
 impl<L: Stage, U: Stage> Pile<L, U> {
     // The pile of two stages. What leaves it is what leaves the upper when what leaves the lower enters that.
+    #[tactic(auto, using(stage::proofs::Leaving::enters))]
     pub fn new(lower: L, upper: U) -> Pile<L, U>
         ensures value { (result.lower ≡ lower) × (result.upper ≡ upper) }
         ensures enters { Enters (L.Stage.meaning lower) (U.Stage.meaning upper) }
@@ -44,6 +45,7 @@ impl<L: Stage, U: Stage> Stage for Pile<L, U> {
         self.upper.length(self.lower.length(n)?)
     }
 
+    #[tactic(auto, using(stage::proofs::Answers::inverted_there))]
     fn content(&self, n: usize, place: usize) -> Result<Content, Refusal> {
         let middle = self.lower.length(n)?;
         match self.upper.content(middle, place)? {
@@ -53,6 +55,7 @@ impl<L: Stage, U: Stage> Stage for Pile<L, U> {
         }
     }
 
+    #[tactic(auto, using(stage::proofs::Answers::home_through))]
     fn home(&self, n: usize, element: usize) -> Result<usize, Refusal> {
         let middle = self.lower.length(n)?;
         self.upper.length(middle)?;
@@ -61,6 +64,7 @@ impl<L: Stage, U: Stage> Stage for Pile<L, U> {
 }
 
 // A marker among the elements that enter a stage, as it leaves: at its home, inverted where the stage inverts.
+#[tactic(auto, using(stage::proofs::Answers::home_not_refused))]
 fn moved_up<S: Stage>(stage: &S, n: usize, marker: Marker) -> Result<Marker, Refusal>
     ensures { result ≡ moved_answer (S.Stage.meaning stage.now) n marker }
 {
@@ -75,6 +79,7 @@ fn moved_up<S: Stage>(stage: &S, n: usize, marker: Marker) -> Result<Marker, Ref
 impl<L: MarkedStage, U: MarkedStage> MarkedStage for Pile<L, U> {
     ghost markers = { λ s. piled_markers (L.Stage.meaning s.lower) (U.Stage.meaning s.upper) (L.MarkedStage.markers s.lower) (U.MarkedStage.markers s.upper) };
 
+    #[tactic(auto, using(stage::proofs::Markers::counts_fit, stage::proofs::Markers::count_sum))]
     fn marker_count(&self, n: usize) -> Result<usize, Refusal> {
         let middle = self.lower.length(n)?;
         let above = self.upper.marker_count(middle)?;

@@ -32,6 +32,7 @@ impl Stage for Inserter {
 
     ghost homes = { λ _. inserter_homes };
 
+    #[tactic(auto, using(layout::proofs::InserterLaws::size_from))]
     fn length(&self, n: usize) -> Result<usize, Refusal> {
         check_count(n, MOST_ELEMENTS)?;
         if n == 0 {
@@ -52,6 +53,7 @@ impl Stage for Inserter {
         })
     }
 
+    #[tactic(auto, using(layout::proofs::InserterLaws::home_from))]
     fn home(&self, n: usize, element: usize) -> Result<usize, Refusal> {
         check_count(n, MOST_ELEMENTS)?;
         check_index(element, n)?;
@@ -62,11 +64,13 @@ impl Stage for Inserter {
 impl MarkedStage for Inserter {
     ghost markers = { λ _. inserter_markers };
 
+    #[tactic(auto, using(layout::proofs::InserterLaws::inserter_count, layout::proofs::InserterLaws::inserter_marked))]
     fn marker_count(&self, n: usize) -> Result<usize, Refusal> {
         check_count(n, MOST_ELEMENTS)?;
         Ok(32 * (n.saturating_sub(1) / 320))
     }
 
+    #[tactic(auto, using(layout::proofs::InserterLaws::inserter_count, layout::proofs::InserterLaws::inserter_marker, layout::proofs::InserterLaws::inserter_marked))]
     fn marker(&self, n: usize, index: usize) -> Result<Marker, Refusal> {
         check_index(index, self.marker_count(n)?)?;
         Ok(Marker {

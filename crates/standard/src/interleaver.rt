@@ -89,6 +89,7 @@ impl Stage for Interleaver {
         })
     }
 
+    #[tactic(auto, using(layout::proofs::InterleaverLaws::interleaver_home))]
     fn home(&self, n: usize, element: usize) -> Result<usize, Refusal> {
         check_count(n, MOST_ELEMENTS)?;
         check_index(element, n)?;
@@ -99,11 +100,13 @@ impl Stage for Interleaver {
 impl MarkedStage for Interleaver {
     ghost markers = { λ s. interleaver_markers s.preamble };
 
+    #[tactic(auto, using(layout::proofs::InterleaverLaws::interleaver_count))]
     fn marker_count(&self, n: usize) -> Result<usize, Refusal> {
         check_count(n, MOST_ELEMENTS)?;
         Ok(PREAMBLE_PLACES.len())
     }
 
+    #[tactic(auto, using(layout::proofs::InterleaverLaws::interleaver_count, layout::proofs::InterleaverLaws::interleaver_marker))]
     fn marker(&self, n: usize, index: usize) -> Result<Marker, Refusal> {
         check_count(n, MOST_ELEMENTS)?;
         check_index(index, PREAMBLE_PLACES.len())?;

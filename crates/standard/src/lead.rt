@@ -41,6 +41,7 @@ impl Stage for Lead {
         })
     }
 
+    #[tactic(auto, using(layout::proofs::LeadLaws::lead_home))]
     fn home(&self, n: usize, element: usize) -> Result<usize, Refusal> {
         check_count(n, MOST_ELEMENTS)?;
         check_index(element, n)?;
@@ -51,11 +52,13 @@ impl Stage for Lead {
 impl MarkedStage for Lead {
     ghost markers = { λ _. lead_markers };
 
+    #[tactic(auto, using(layout::proofs::LeadLaws::lead_count, layout::proofs::LeadLaws::lead_marked))]
     fn marker_count(&self, n: usize) -> Result<usize, Refusal> {
         check_count(n, MOST_ELEMENTS)?;
         Ok(BITS.len())
     }
 
+    #[tactic(auto, using(layout::proofs::LeadLaws::lead_count, layout::proofs::LeadLaws::lead_marker, layout::proofs::LeadLaws::lead_marked))]
     fn marker(&self, n: usize, index: usize) -> Result<Marker, Refusal> {
         check_count(n, MOST_ELEMENTS)?;
         check_index(index, BITS.len())?;

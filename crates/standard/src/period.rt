@@ -4,6 +4,7 @@ ghost use Rattle.layout.specs.Places.{how_many, terms_to};
 ghost use Rattle.layout.specs.Inserter.{is_mute, is_carrier};
 
 // How many of `count` numbers, the first and each a step further, are at most x.
+#[tactic(auto, using(layout::proofs::Places::terms_none, layout::proofs::Places::terms_some))]
 fn terms_up_to(x: usize, first: usize, step: usize, count: usize) -> usize
     requires { (x < 384) × (0 < step) }
     ensures value { result ≡ terms_to x first step count }
@@ -16,6 +17,7 @@ fn terms_up_to(x: usize, first: usize, step: usize, count: usize) -> usize
 }
 
 // Whether a place is a mute: 7 + 8a + 15b leaves the remainder 7 - b at a division by 8.
+#[tactic(auto, using(layout::proofs::InserterLaws::mute_rule))]
 pub(crate) fn is_silent(place: usize) -> bool
     ensures { result ≡ is_mute place }
 {
@@ -25,6 +27,7 @@ pub(crate) fn is_silent(place: usize) -> bool
 }
 
 // How many mutes of the period stand before a place of it: four rows of eight, each 15 after the one before.
+#[tactic(auto, using(layout::proofs::InserterLaws::mutes_in_period))]
 fn mutes_before(spot: usize) -> usize
     requires { spot < 384 }
     ensures { result ≡ how_many is_mute spot }
@@ -36,6 +39,7 @@ fn mutes_before(spot: usize) -> usize
 }
 
 // How many elements a stream carries before a place.
+#[tactic(auto, using(layout::proofs::Places::how_many_most, layout::proofs::InserterLaws::carriers_rule))]
 pub(crate) fn carried_before(place: usize) -> usize
     ensures { result ≡ how_many is_carrier place }
 {

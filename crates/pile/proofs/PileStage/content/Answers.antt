@@ -1,23 +1,12 @@
 use Rattle.std.proofs.Common.{Ok, sym, ap, ◌∙◌}
-use Rattle.stage.proofs.Answers.{content_carried, inverted_there}
+use Rattle.stage.proofs.Answers.{content_carried}
 use Rattle.pile.proofs.PileStage.content.Goals as goal
-
-pub returns-in_err-content-in-Inverted : goal.returns-in_err-content-in-Inverted
-returns-in_err-content-in-Inverted g c =
-    let lower = c.args.self.now.lower in
-    let upper = c.args.self.now.upper in
-    absurd (inverted_there (g.L.Stage.meaning lower)
-    (g.U.Stage.meaning upper) (g.U.Stage.homes upper)
-    c.args.n c.args.place c.in_ok-middle.middle c.in-Inverted.j c.in_err-content-in-Inverted.field-0.0
-    c.in_ok-middle.ensures (ap Ok (sym c.in-Inverted.is) ∙ c.in_ok-own.ensures)
-    c.in_err-content-in-Inverted.ensures)
 
 pub returns-in-Carried : goal.returns-in-Carried
 returns-in-Carried g c =
     let lower = c.args.self.now.lower in
     let upper = c.args.self.now.upper in
     c.content-in-Carried.ensures
-    ∙ content_carried (g.L.Stage.meaning lower)
-    (g.U.Stage.meaning upper) (g.U.Stage.homes upper)
+    ∙ content_carried (g.L.Stage.meaning lower) (g.U.Stage.meaning upper) (g.U.Stage.homes upper)
     c.args.n c.args.place c.in_ok-middle.middle c.in-Carried.j
     c.in_ok-middle.ensures (ap Ok (sym c.in-Carried.is) ∙ c.in_ok-own.ensures)

@@ -1,9 +1,5 @@
-use Rattle.std.proofs.Common.{rules}
-use Rattle.layout.proofs.InterleaverLaws.{interleaver_count, interleaver_marked}
+use Rattle.layout.proofs.InterleaverLaws.{interleaver_marked}
 use Rattle.standard.proofs.interleaver.InterleaverMarkedStage.marker_count.Goals as goal
 
-pub returns : goal.returns
-returns c =
-    let octets = c.args.self.now.preamble in
-    let all = interleaver_count octets c.args.n in
-    record { count = search rules; marked = interleaver_marked octets c.args.n }
+pub returns-clause-marked : goal.returns-clause-marked
+returns-clause-marked c = interleaver_marked c.args.self.now.preamble c.args.n

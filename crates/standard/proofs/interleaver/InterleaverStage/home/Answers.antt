@@ -1,7 +1,0 @@
-use Rattle.std.proofs.Common.{rules}
-use Rattle.layout.proofs.InterleaverLaws.{interleaver_home}
-use Rattle.standard.proofs.interleaver.InterleaverStage.home.Goals as goal
-
-pub returns : goal.returns
-returns c =
-    let there = interleaver_home c.args.self.now.preamble c.args.n c.args.element (search rules) in search rules

@@ -1,7 +1,0 @@
-use Rattle.std.proofs.Common.{arith, rules}
-use Rattle.layout.proofs.InserterLaws.{mutes_in_period}
-use Rattle.standard.proofs.period.mutes_before.Goals as goal
-
-pub returns : goal.returns
-returns c = let rule = mutes_in_period c.args.spot (search rules) in
-    omega (arith, c.terms_up_to.ensures.value, c.terms_up_to-2.ensures.value, c.terms_up_to-3.ensures.value, c.terms_up_to-4.ensures.value)
