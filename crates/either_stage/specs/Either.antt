@@ -1,5 +1,4 @@
 -- A stage that is one of two stages means what that one means.
--- Assumes nothing.
 use Rattle.either_stage.specs.declared.Either.{Either}
 use Rattle.either_stage.specs.declared.Either.TheVariants.{Left, Right}
 

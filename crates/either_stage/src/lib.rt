@@ -2,7 +2,7 @@
 #![tactic(auto)]
 
 ghost use Rattle.either_stage.specs.Either.{whichever};
-ghost use Rattle.either_stage.specs.Homes.{either_homes};
+ghost use Rattle.either_stage.specs.declared.Either.TheVariants.{Left, Right};
 
 use refusal::Refusal;
 use stage::{Content, MarkedStage, Marker, Stage};
@@ -21,7 +21,11 @@ impl<L: Stage, R: Stage> Stage for Either<L, R> {
 
     ghost at = { whichever L.Stage.at R.Stage.at };
 
-    ghost homes = { either_homes L.Stage.takes R.Stage.takes L.Stage.size R.Stage.size L.Stage.at R.Stage.at L.Stage.homes R.Stage.homes };
+    ghost meaning = { whichever L.Stage.meaning R.Stage.meaning };
+
+    ghost whole = { elim [ Left s ↦ L.Stage.whole s | Right s ↦ R.Stage.whole s ] };
+
+    ghost homes = { elim [ Left s ↦ L.Stage.homes s | Right s ↦ R.Stage.homes s ] };
 
     fn length(&self, n: usize) -> Result<usize, Refusal> {
         match self {

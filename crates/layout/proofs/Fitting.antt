@@ -1,9 +1,8 @@
 -- What a stage owes follows from one function that gives each element's place; and so do its markers' laws.
--- Assumes nothing.
 use Rattle.std.proofs.Common.{◌≡◌, ℕ, ◌<◌, ◌≤◌, Bool, true, T, sym, ◌∙◌, arith}
 use Rattle.stage.specs.declared.Content.TheVariants.{Fixed}
 use Rattle.stage.specs.Meaning.{Meaning, Homes, Stands, carries, home_of}
-use Rattle.stage.specs.Marked.{Apart, Told, no_marker}
+use Rattle.stage.specs.Marked.{Marked, no_marker}
 use Rattle.layout.specs.Places.{markers_at}
 use Rattle.layout.proofs.Places.{first_place_is, marker_back, markers_apart}
 
@@ -30,11 +29,9 @@ home_is m place_of f n i h =
     first_place_is (λ p. carries (m.at n p) i) (m.size n) (place_of i) s.0 s.1
     (λ q l t. omega (arith, (f.only n i q (omega (arith, s.0), t)).1))
 
--- markers at the places that pass a test are told where the content there is the bit
-pub markers_told : (m : Meaning) (test bit : ℕ → Bool) (n : ℕ) → ((p : ℕ) → test p ≡ true → m.at n p ≡ Fixed (bit p)) → Told m (λ k. markers_at test bit (m.size k)) n
-markers_told m test bit n fixed t k h =
-    let (p, inside, passes, _, e) = marker_back test bit (m.size n) k no_marker h in
-    rw e (inside, fixed p passes)
-
-pub markers_differ : (takes : ℕ → Bool) (size : ℕ → ℕ) (test bit : ℕ → Bool) (n : ℕ) → Apart takes (λ k. markers_at test bit (size k)) n
-markers_differ takes size test bit n t j k hj hk e = markers_apart test bit (size n) no_marker j k hj hk e
+-- markers at the places that pass a test stand apart, and hold where the content there is the bit
+pub markers_hold : (m : Meaning) (test bit : ℕ → Bool) (n : ℕ) → ((p : ℕ) → test p ≡ true → m.at n p ≡ Fixed (bit p)) → Marked m (λ k. markers_at test bit (m.size k)) n
+markers_hold m test bit n fixed = (
+  λ t j k hj hk e. markers_apart test bit (m.size n) no_marker j k hj hk e,
+  λ t k h. let (p, inside, passes, _, e) = marker_back test bit (m.size n) k no_marker h in rw e (inside, fixed p passes),
+)

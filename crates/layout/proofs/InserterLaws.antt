@@ -1,5 +1,4 @@
 -- What the inserter owes: where each element stands, by four rows of mutes and whole periods, and nowhere else.
--- Assumes nothing.
 use Rattle.std.proofs.Common.{◌≡◌, ℕ, zero, suc, ◌+◌, ◌-◌, ◌*◌, ◌/◌, ◌%◌, ◌<◌, ◌≤◌, min, Bool, true, false, cond, not, ◌&&◌, ◌||◌, T, eqb, ltb, leb, length, get_or, sym, refl, ap, ◌∙◌, inl, inr, mod-eq_of_lt, mul-suc, arith, eqb→eq, leb→le}
 use native.Mathlib.Nat.{mod-mod, div-eq_of_lt}
 use lib.Dec.{eqb_refl}
@@ -7,11 +6,11 @@ use Rattle.std.proofs.lemmas.Nat.{div-mul-add, mod-mul-add}
 use Rattle.std.proofs.lemmas.Bool.{cases_Bool, cases_lt, lt-ltb, le-ltb, ltb-true, and_parts, and_right, not-true, leb-true, le-leb, lt-leb, eqb-true}
 use Rattle.stage.specs.declared.Content.TheVariants.{Carried, Fixed}
 use Rattle.stage.specs.Meaning.{Homes, Stands, carries, home_of}
-use Rattle.stage.specs.Marked.{Apart, Told, no_marker}
+use Rattle.stage.specs.Marked.{Marked, no_marker}
 use Rattle.layout.specs.Places.{taken, is_one_of, how_many, terms_to}
 use Rattle.layout.specs.Inserter.{mutes, is_mute, is_resync, is_carrier, resynchronisation, resync_bit, inserter_at, inserter_size, inserter_meaning, inserter_markers}
 use Rattle.layout.proofs.Places.{T_true, first_place_is, how_many_yes, how_many_no, how_many_most, how_many_grows, how_many_below, length-markers, marker_is}
-use Rattle.layout.proofs.Fitting.{Placed, homes_fit, home_is, markers_told, markers_differ}
+use Rattle.layout.proofs.Fitting.{Placed, homes_fit, home_is, markers_hold}
 use Rattle.layout.proofs.Tables.{everywhere, at}
 
 -- one place on, within a period and at its end
@@ -299,8 +298,5 @@ inserter_marker (suc l) k h =
     (resyncs_before (384 * (k / 32) + 352 + k % 32) ∙ rw (whole, spot_in) (omega arith))
     ∙ ap (λ b. record { place = 384 * (k / 32) + 352 + k % 32; bit = b }) (ap (λ q. get_or resynchronisation q false) back)
 
-pub inserter_told : (n : ℕ) → Told inserter_meaning inserter_markers n
-inserter_told n = markers_told inserter_meaning is_resync resync_bit n (resync_in n)
-
-pub inserter_apart : (n : ℕ) → Apart taken inserter_markers n
-inserter_apart n = markers_differ taken inserter_size is_resync resync_bit n
+pub inserter_marked : (n : ℕ) → Marked inserter_meaning inserter_markers n
+inserter_marked n = markers_hold inserter_meaning is_resync resync_bit n (resync_in n)

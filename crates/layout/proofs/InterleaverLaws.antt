@@ -1,16 +1,15 @@
 -- What the interleaver owes: element i stands at i + 16 (i mod 8) and nowhere else, and its preamble lies as its tables say.
--- Assumes nothing.
 use Rattle.std.proofs.Common.{◌≡◌, ℕ, ◌+◌, ◌-◌, ◌*◌, ◌/◌, ◌%◌, ◌<◌, ◌≤◌, Bool, true, false, cond, not, ◌||◌, T, eqb, ltb, List, [], ◌∷◌, length, get_or, refl, ap, ◌∙◌, subst, inl, inr, arith, eqb→eq, leb→le}
 use Rattle.std.proofs.lemmas.Nat.{div-mul-add, mod-mul-add}
 use Rattle.std.proofs.lemmas.Bool.{cases_Bool, lt-ltb, le-ltb, ltb-true, ltb-false, eq-eqb}
 use Rattle.stage.specs.declared.Content.{Content}
 use Rattle.stage.specs.declared.Content.TheVariants.{Carried, Inverted, Fixed}
 use Rattle.stage.specs.Meaning.{Homes, carries, home_of}
-use Rattle.stage.specs.Marked.{Apart, Told, no_marker}
+use Rattle.stage.specs.Marked.{Marked, no_marker}
 use Rattle.layout.specs.Places.{taken, how_many}
 use Rattle.layout.specs.Interleaver.{column, scrambled, in_preamble, preamble_bit, preamble_at, interleaved, interleaver_size, interleaver_at, interleaver_meaning, interleaver_markers}
 use Rattle.layout.proofs.Places.{true_T, passed, passed_back, how_many_past, how_many_below, length-markers, marker_is}
-use Rattle.layout.proofs.Fitting.{Placed, homes_fit, home_is, markers_told, markers_differ}
+use Rattle.layout.proofs.Fitting.{Placed, homes_fit, home_is, markers_hold}
 use Rattle.layout.proofs.Tables.{at}
 
 abbrev pub place_of : ℕ → ℕ
@@ -95,11 +94,8 @@ module _ (preamble : List ℕ) where
       marker_is in_preamble (preamble_at preamble) (n + 112) (get_or (passed in_preamble 112) k 0) k no_marker (omega (arith, low)) passes before
       ∙ ap (λ j. record { place = get_or (passed in_preamble 112) k 0; bit = preamble_bit preamble j }) before
 
-  pub interleaver_told : (n : ℕ) → Told (interleaver_meaning preamble) (interleaver_markers preamble) n
-  interleaver_told n = markers_told (interleaver_meaning preamble) in_preamble (preamble_at preamble) n (held n)
-
-  pub interleaver_apart : (n : ℕ) → Apart taken (interleaver_markers preamble) n
-  interleaver_apart n = markers_differ taken interleaver_size in_preamble (preamble_at preamble) n
+  pub interleaver_marked : (n : ℕ) → Marked (interleaver_meaning preamble) (interleaver_markers preamble) n
+  interleaver_marked n = markers_hold (interleaver_meaning preamble) in_preamble (preamble_at preamble) n (held n)
 
 -- how many preamble bits stand before each row
 abbrev pub before_row : List ℕ

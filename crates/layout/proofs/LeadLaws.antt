@@ -1,15 +1,14 @@
 -- What the lead owes: element i stands at i + 8 and nowhere else.
--- Assumes nothing.
 use Rattle.std.proofs.Common.{◌≡◌, ℕ, ◌+◌, ◌-◌, ◌<◌, ◌≤◌, true, cond, T, eqb, length, get_or, ap, ◌∙◌, subst, inl, inr, arith, eqb→eq, leb→le}
 use Rattle.std.proofs.lemmas.Bool.{cases_lt, lt-ltb, le-ltb, eq-eqb}
 use Rattle.stage.specs.declared.Content.{Content}
 use Rattle.stage.specs.declared.Content.TheVariants.{Carried, Fixed}
 use Rattle.stage.specs.Meaning.{Homes, carries, home_of}
-use Rattle.stage.specs.Marked.{Apart, Told, no_marker}
+use Rattle.stage.specs.Marked.{Marked, no_marker}
 use Rattle.layout.specs.Places.{taken}
 use Rattle.layout.specs.Lead.{in_lead, lead_bit, lead_size, lead_at, lead_meaning, lead_markers}
 use Rattle.layout.proofs.Places.{true_T, how_many_past, how_many_all, length-markers, marker_is}
-use Rattle.layout.proofs.Fitting.{Placed, homes_fit, home_is, markers_told, markers_differ}
+use Rattle.layout.proofs.Fitting.{Placed, homes_fit, home_is, markers_hold}
 
 lead_in : (n p : ℕ) → in_lead p ≡ true → lead_at n p ≡ Fixed (lead_bit p)
 lead_in n p e = ap (λ b. cond b (Fixed (lead_bit p)) (Carried (p - 8))) e
@@ -45,11 +44,8 @@ lead_home n i h = home_is lead_meaning (λ i. i + 8) lead_placed n i h
 pub lead_count : (n : ℕ) → length (lead_markers n) ≡ 8
 lead_count n = length-markers in_lead lead_bit (n + 8) ∙ how_many_past in_lead 8 n (λ q h. le-ltb q 8 h)
 
-pub lead_told : (n : ℕ) → Told lead_meaning lead_markers n
-lead_told n = markers_told lead_meaning in_lead lead_bit n (lead_in n)
-
-pub lead_apart : (n : ℕ) → Apart taken lead_markers n
-lead_apart n = markers_differ taken lead_size in_lead lead_bit n
+pub lead_marked : (n : ℕ) → Marked lead_meaning lead_markers n
+lead_marked n = markers_hold lead_meaning in_lead lead_bit n (lead_in n)
 
 pub lead_marker : (n k : ℕ) → k < 8 → get_or (lead_markers n) k no_marker ≡ record { place = k; bit = lead_bit k }
 lead_marker n k h =

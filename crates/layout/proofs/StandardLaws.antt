@@ -1,5 +1,4 @@
 -- Worked lengths and homes, for every preamble.
--- Assumes nothing.
 use Rattle.std.proofs.Common.{◌≡◌, ℕ, suc, ◌+◌, ◌<◌, T, leb, List, Ok, refl, ap, ◌∙◌}
 use Rattle.stage.specs.Meaning.{home_of, length_answer}
 use Rattle.layout.specs.Inserter.{inserter_size, inserter_meaning}

@@ -1,5 +1,4 @@
 -- A test at every number below a bound, which antt computes.
--- Assumes nothing.
 use Rattle.std.proofs.Common.{ℕ, zero, suc, ◌<◌, Bool, true, false, T, inl, inr, not-suc-le-zero, arith}
 use Rattle.std.proofs.lemmas.Bool.{cases_order}
 

@@ -1,5 +1,4 @@
 -- The inserter: mutes and a resynchronisation sequence come between the elements, in periods of 384 places.
--- Assumes nothing.
 use Rattle.std.specs.Prelude.{ℕ, zero, suc, ◌+◌, ◌-◌, ◌*◌, ◌/◌, ◌%◌, Bool, true, false, cond, not, ◌&&◌, List, [], ◌∷◌, map, nat_le, slice_index_or}
 use Rattle.std.specs.List.{range_with_len, flat_map}
 use Rattle.stage.specs.declared.Content.{Content}

@@ -1,5 +1,4 @@
 -- The lead: eight bits in front of everything.
--- Assumes nothing.
 use Rattle.std.specs.Prelude.{ℕ, ◌+◌, ◌-◌, Bool, true, false, cond, List, [], ◌∷◌, nat_lt, slice_index_or}
 use Rattle.stage.specs.declared.Content.{Content}
 use Rattle.stage.specs.declared.Content.TheVariants.{Carried, Fixed}

@@ -1,5 +1,4 @@
 -- What the rules of all stages are told with: the counts taken, and counting places.
--- Assumes nothing.
 use Rattle.std.specs.Prelude.{ℕ, zero, suc, ◌+◌, ◌*◌, Bool, false, cond, ◌||◌, leb, List, [], ◌∷◌, map, filter, ◌==◌, nat_le}
 use Rattle.std.specs.List.{range_with_len}
 use Rattle.stage.specs.declared.Marker.{Marker}

@@ -1,5 +1,4 @@
 -- The standard pile: the inserter, then the interleaver, then the lead on top.
--- Assumes nothing.
 use Rattle.std.specs.Prelude.{ℕ, List}
 use Rattle.stage.specs.Meaning.{Meaning}
 use Rattle.stage.specs.Piled.{piled}

@@ -2,12 +2,13 @@
 #![tactic(auto)]
 
 ghost use Rattle.std.specs.Prelude.{◌≡◌};
+ghost use Rattle.std.proofs.Common.{refl};
 ghost use Rattle.stage.specs.Meaning.{Homes, length_answer, content_answer, home_answer};
 ghost use Rattle.stage.specs.Piled.{piled, piled_markers, moved_answer, Enters};
 ghost use Rattle.stage.proofs.Homes.{piled_homes};
 
 use refusal::Refusal;
-use stage::{Content, MarkedStage, Marker, Stage};
+use stage::{Content, MarkedStage, Marker, Stage, check_index};
 
 // What leaves the lower stage enters the upper one.
 #[derive(Drop)]
@@ -33,6 +34,10 @@ impl<L: Stage, U: Stage> Stage for Pile<L, U> {
 
     ghost at = { λ s. (piled (L.Stage.meaning s.lower) (U.Stage.meaning s.upper)).at };
 
+    ghost meaning = { λ s. piled (L.Stage.meaning s.lower) (U.Stage.meaning s.upper) };
+
+    ghost whole = { λ _. refl };
+
     ghost homes = { λ s. piled_homes (L.Stage.meaning s.lower) (U.Stage.meaning s.upper) (L.Stage.homes s.lower) (U.Stage.homes s.upper) };
 
     fn length(&self, n: usize) -> Result<usize, Refusal> {
@@ -43,7 +48,7 @@ impl<L: Stage, U: Stage> Stage for Pile<L, U> {
         let middle = self.lower.length(n)?;
         match self.upper.content(middle, place)? {
             Content::Carried(j) => self.lower.content(n, j),
-            Content::Inverted(j) => Ok(self.lower.content(n, j)?.inverted()),
+            Content::Inverted(j) => Ok(!self.lower.content(n, j)?),
             own => Ok(own),
         }
     }
@@ -78,9 +83,7 @@ impl<L: MarkedStage, U: MarkedStage> MarkedStage for Pile<L, U> {
     }
 
     fn marker(&self, n: usize, index: usize) -> Result<Marker, Refusal> {
-        if index >= self.marker_count(n)? {
-            return Err(Refusal::NoSuchPlace);
-        }
+        check_index(index, self.marker_count(n)?)?;
         let middle = self.lower.length(n)?;
         let above = self.upper.marker_count(middle)?;
         if index < above {

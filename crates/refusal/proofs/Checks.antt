@@ -1,4 +1,4 @@
--- What is known once a check of a call was passed. Assumes nothing.
+-- What is known once a check of a call was passed.
 use Rattle.std.proofs.Common.{◌≡◌, ℕ, ◌<◌, ◌≤◌, Bool, true, false, eqb, ltb, Ok, Err, Result, refl, ◌∙◌, arith, ltb-false}
 use borrow.Author.Tests.{eqb-false}
 use Rattle.refusal.specs.declared.Refusal.{Refusal}

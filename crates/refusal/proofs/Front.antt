@@ -1,9 +1,9 @@
--- A loop that fills the first places of lent memory, one after the other. Assumes nothing.
-use Rattle.std.proofs.Common.{◌≡◌, ℕ, zero, suc, ◌+◌, ◌*◌, ◌<◌, List, [], ◌∷◌, ◌++◌, map, length, drop, set, sym, refl, ap, ◌∙◌, append_assoc, append-nil, add-zero, mul-zero, zero-add, mul-suc, add-one, arith}
+-- A loop that fills the first places of lent memory, one after the other.
+use Rattle.std.proofs.Common.{◌≡◌, ℕ, zero, suc, ◌+◌, ◌*◌, ◌<◌, ◌≤◌, List, [], ◌∷◌, ◌++◌, map, length, drop, set, sym, refl, ap, ◌∙◌, append_assoc, append-nil, add-zero, mul-zero, zero-add, mul-suc, add-one, arith}
 use borrow.Rule.Slice.PartMut.{put_mid}
 use Rattle.std.specs.List.{range_with_len, flat_map}
 use Rattle.std.proofs.lemmas.List.FromFn.{fill_by_all, get_or-map-range_with_len, length-map-range_with_len, map-range_with_len_more}
-use Rattle.std.proofs.lemmas.List.{flat_map_more, length-append, map-id, drop_at, drop-drop, drop_more, set_at, take_at}
+use Rattle.std.proofs.lemmas.List.{flat_map_more, length-append, map-id, drop_all, drop_at, drop-drop, drop_more, set_at, take_at}
 
 -- memory whose first n places hold f of their place, and whose rest is as found
 abbrev pub filled : {X : Type 0} → (ℕ → X) → ℕ → List X → List X
@@ -17,6 +17,10 @@ filled_more f n j memory x next within is =
     ∙ sym (append_assoc (map f (range_with_len 0 n)) (f n ∷ []) (drop (n + 1) memory))
     ∙ ap (λ l. l ++ drop (n + 1) memory) (sym (map-range_with_len_more f 0 n n (omega arith)))
     ∙ ap (λ m. filled f m memory) next
+
+-- a part that is filled to its end holds nothing else
+pub filled_whole : {X : Type 0} (f : ℕ → X) (n : ℕ) (part : List X) → length part ≤ n → filled f n part ≡ map f (range_with_len 0 n)
+filled_whole f n part all = ap (λ l. map f (range_with_len 0 n) ++ l) (drop_all n part all) ∙ append-nil (map f (range_with_len 0 n))
 
 -- functions that agree below n list alike
 pub same_map : {X : Type 0} (f g : ℕ → X) (n : ℕ) → ((i : ℕ) → i < n → f i ≡ g i) → map f (range_with_len 0 n) ≡ map g (range_with_len 0 n)

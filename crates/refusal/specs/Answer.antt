@@ -1,5 +1,4 @@
 -- How a call answers: its checks in their order, and what lent memory holds afterwards.
--- Assumes nothing.
 use Rattle.std.specs.Prelude.{ℕ, Bool, cond, List, ◌++◌, length, drop, is_ok, Err, Result, ◌==◌, nat_lt}
 use Rattle.refusal.specs.declared.Refusal.{Refusal}
 use Rattle.refusal.specs.declared.Refusal.TheVariants.{EmptyText, TextTooLong}

@@ -1,5 +1,4 @@
 -- The table of refusals: the number of each, and the sentence that is printed for it.
--- Assumes nothing.
 use Rattle.std.specs.Prelude.{ℕ, List, codes}
 use Rattle.refusal.specs.declared.Refusal.{Refusal}
 use Rattle.refusal.specs.declared.Refusal.TheVariants.{EmptyText, TextTooLong, MemoryTooShort, ValueOutOfRange, CapacityExceeded, NoSuchPlace, BurstNotHeard, NoMarker, PoorFit, CountNotTaken, BadElements, ReadingOutOfRange, BadLine}

@@ -1,12 +1,12 @@
 // The inserter: mutes and resynchronisation sequences come between the elements, which they delay and never replace.
-ghost use Rattle.std.specs.Prelude.{◌≡◌};
+ghost use Rattle.std.proofs.Common.{refl};
 ghost use Rattle.layout.specs.Places.{taken};
-ghost use Rattle.layout.specs.Inserter.{inserter_size, inserter_at, inserter_markers};
+ghost use Rattle.layout.specs.Inserter.{inserter_size, inserter_at, inserter_meaning, inserter_markers};
 ghost use Rattle.layout.proofs.InserterLaws.{inserter_homes};
 
-use crate::period;
+use crate::{MOST_ELEMENTS, period};
 use refusal::Refusal;
-use stage::{Content, MarkedStage, Marker, Stage};
+use stage::{Content, MarkedStage, Marker, Stage, check_count, check_index};
 
 // 01010110 01101110 11010010 01110001.
 const RESYNCHRONISATION: [bool; 32] = [
@@ -26,10 +26,14 @@ impl Stage for Inserter {
 
     ghost at = { λ _. inserter_at };
 
+    ghost meaning = { λ _. inserter_meaning };
+
+    ghost whole = { λ _. refl };
+
     ghost homes = { λ _. inserter_homes };
 
     fn length(&self, n: usize) -> Result<usize, Refusal> {
-        crate::check_count(n)?;
+        check_count(n, MOST_ELEMENTS)?;
         if n == 0 {
             return Ok(0);
         }
@@ -37,10 +41,7 @@ impl Stage for Inserter {
     }
 
     fn content(&self, n: usize, place: usize) -> Result<Content, Refusal> {
-        let size = self.length(n)?;
-        if place >= size {
-            return Err(Refusal::NoSuchPlace);
-        }
+        check_index(place, self.length(n)?)?;
         let spot = place % 384;
         Ok(if period::is_silent(place) {
             Content::Mute
@@ -52,10 +53,8 @@ impl Stage for Inserter {
     }
 
     fn home(&self, n: usize, element: usize) -> Result<usize, Refusal> {
-        crate::check_count(n)?;
-        if element >= n {
-            return Err(Refusal::NoSuchPlace);
-        }
+        check_count(n, MOST_ELEMENTS)?;
+        check_index(element, n)?;
         Ok(period::carrier_of(element))
     }
 }
@@ -64,15 +63,12 @@ impl MarkedStage for Inserter {
     ghost markers = { λ _. inserter_markers };
 
     fn marker_count(&self, n: usize) -> Result<usize, Refusal> {
-        crate::check_count(n)?;
+        check_count(n, MOST_ELEMENTS)?;
         Ok(32 * (n.saturating_sub(1) / 320))
     }
 
     fn marker(&self, n: usize, index: usize) -> Result<Marker, Refusal> {
-        let count = self.marker_count(n)?;
-        if index >= count {
-            return Err(Refusal::NoSuchPlace);
-        }
+        check_index(index, self.marker_count(n)?)?;
         Ok(Marker {
             place: 384 * (index / 32) + 352 + index % 32,
             bit: RESYNCHRONISATION[index % 32],

@@ -1,11 +1,13 @@
 // The interleaver: elements are spread over eight columns, some of them inverted, behind a preamble.
 ghost use Rattle.std.specs.Prelude.{◌≡◌, ◌<◌, true};
+ghost use Rattle.std.proofs.Common.{refl};
 ghost use Rattle.layout.specs.Places.{taken, how_many};
-ghost use Rattle.layout.specs.Interleaver.{scrambled, in_preamble, preamble_bit, interleaver_size, interleaver_at, interleaver_markers};
+ghost use Rattle.layout.specs.Interleaver.{scrambled, in_preamble, preamble_bit, interleaver_size, interleaver_at, interleaver_meaning, interleaver_markers};
 ghost use Rattle.layout.proofs.InterleaverLaws.{interleaver_homes};
 
+use crate::MOST_ELEMENTS;
 use refusal::Refusal;
-use stage::{Content, MarkedStage, Marker, Stage};
+use stage::{Content, MarkedStage, Marker, Stage, check_count, check_index};
 
 // How many preamble bits stand before each row.
 const BEFORE_ROW: [u8; 14] = [0, 7, 14, 20, 26, 31, 36, 40, 44, 47, 50, 52, 54, 55];
@@ -27,10 +29,7 @@ pub struct Interleaver {
 fn is_scrambled(column: usize) -> bool
     ensures { result ≡ scrambled column }
 {
-    match column {
-        0 | 2 | 3 | 6 | 7 => true,
-        _ => false,
-    }
+    matches!(column, 0 | 2 | 3 | 6 | 7)
 }
 
 // The index of the preamble bit that stands at a place.
@@ -61,18 +60,19 @@ impl Stage for Interleaver {
 
     ghost at = { λ s. interleaver_at s.preamble };
 
+    ghost meaning = { λ s. interleaver_meaning s.preamble };
+
+    ghost whole = { λ _. refl };
+
     ghost homes = { λ s. interleaver_homes s.preamble };
 
     fn length(&self, n: usize) -> Result<usize, Refusal> {
-        crate::check_count(n)?;
+        check_count(n, MOST_ELEMENTS)?;
         Ok(n + 112)
     }
 
     fn content(&self, n: usize, place: usize) -> Result<Content, Refusal> {
-        let size = self.length(n)?;
-        if place >= size {
-            return Err(Refusal::NoSuchPlace);
-        }
+        check_index(place, self.length(n)?)?;
         let row = place / 8;
         let column = place % 8;
         if row < 2 * column {
@@ -90,10 +90,8 @@ impl Stage for Interleaver {
     }
 
     fn home(&self, n: usize, element: usize) -> Result<usize, Refusal> {
-        crate::check_count(n)?;
-        if element >= n {
-            return Err(Refusal::NoSuchPlace);
-        }
+        check_count(n, MOST_ELEMENTS)?;
+        check_index(element, n)?;
         Ok(element + 16 * (element % 8))
     }
 }
@@ -102,15 +100,13 @@ impl MarkedStage for Interleaver {
     ghost markers = { λ s. interleaver_markers s.preamble };
 
     fn marker_count(&self, n: usize) -> Result<usize, Refusal> {
-        crate::check_count(n)?;
-        Ok(56)
+        check_count(n, MOST_ELEMENTS)?;
+        Ok(PREAMBLE_PLACES.len())
     }
 
     fn marker(&self, n: usize, index: usize) -> Result<Marker, Refusal> {
-        crate::check_count(n)?;
-        if index >= 56 {
-            return Err(Refusal::NoSuchPlace);
-        }
+        check_count(n, MOST_ELEMENTS)?;
+        check_index(index, PREAMBLE_PLACES.len())?;
         Ok(Marker {
             place: usize::from(PREAMBLE_PLACES[index]),
             bit: self.bit(index),

@@ -1,14 +1,9 @@
 // The stages of a burst: mutes and resynchronisation, interleaving with scrambling and preamble, and the lead.
 #![tactic(auto)]
 
-ghost use Rattle.std.specs.Prelude.{◌≡◌, not, Ok};
-ghost use Rattle.refusal.specs.declared.Refusal.TheVariants.{CountNotTaken};
-ghost use Rattle.refusal.specs.Answer.{refused_when};
-ghost use Rattle.layout.specs.Places.{taken};
+ghost use Rattle.std.specs.Prelude.{◌≡◌};
 
 use pile::Pile;
-use refusal::Refusal;
-use stage::Stage;
 
 mod inserter;
 mod interleaver;
@@ -21,16 +16,6 @@ pub use lead::Lead;
 
 // The greatest number of incoming elements that these stages take.
 pub const MOST_ELEMENTS: usize = 10_000;
-
-// Refuses a count of elements that is not taken.
-fn check_count(n: usize) -> Result<(), Refusal>
-    ensures { result ≡ refused_when (not (taken n)) CountNotTaken (Ok tt) }
-{
-    if n > MOST_ELEMENTS {
-        return Err(Refusal::CountNotTaken);
-    }
-    Ok(())
-}
 
 // The standard pile: the inserter, then the interleaver, then the lead on top.
 pub type StandardPile = Pile<Pile<Inserter, Interleaver>, Lead>;
@@ -45,6 +30,7 @@ pub fn standard_pile(preamble: [u8; 7]) -> StandardPile
 #[cfg(test)]
 mod tests {
     use super::*;
+    use refusal::Refusal;
     use stage::{Content, Stage};
     use std::test::Fail;
 

@@ -1,5 +1,4 @@
 -- The burst of a text: what leaves a stage when the text's coded bits enter it.
--- Assumes nothing.
 use Rattle.std.specs.Prelude.{ℕ, Bool, not, List, map, length, Ok, Err, Result, nat_lt}
 use Rattle.refusal.specs.declared.Refusal.{Refusal}
 use Rattle.refusal.specs.declared.Refusal.TheVariants.{MemoryTooShort, CountNotTaken}

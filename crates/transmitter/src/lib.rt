@@ -15,9 +15,9 @@ fn element(content: Content, text: &[u8]) -> Result<Element, Refusal>
     ensures { result ≡ element_answer text.now content }
 {
     match content {
-        Content::Carried(i) => Ok(Element::of_bit(coded_bit(text, i)?)),
-        Content::Inverted(i) => Ok(Element::of_bit(!coded_bit(text, i)?)),
-        Content::Fixed(bit) => Ok(Element::of_bit(bit)),
+        Content::Carried(i) => Ok(Element::from(coded_bit(text, i)?)),
+        Content::Inverted(i) => Ok(Element::from(!coded_bit(text, i)?)),
+        Content::Fixed(bit) => Ok(Element::from(bit)),
         Content::Mute => Ok(Element::Mute),
     }
 }
@@ -33,8 +33,8 @@ pub fn write<S: Stage>(stage: &S, text: &[u8], out: &mut [u8]) -> Result<usize, 
     if out.len() < length {
         return Err(Refusal::MemoryTooShort);
     }
-    for place in 0..length {
-        out[place] = element(stage.content(n, place)?, text)?.octet();
+    for (place, octet) in out[..length].iter_mut().enumerate() {
+        *octet = u8::from(element(stage.content(n, place)?, text)?);
     }
     Ok(length)
 }

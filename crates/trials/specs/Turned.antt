@@ -1,5 +1,4 @@
 -- A small stage for trials: one fixed bit in front, and all elements inverted behind it.
--- Assumes nothing.
 use Rattle.std.specs.Prelude.{ℕ, ◌+◌, ◌-◌, Bool, cond, List, [], ◌∷◌, ◌==◌, nat_le}
 use Rattle.stage.specs.declared.Content.{Content}
 use Rattle.stage.specs.declared.Content.TheVariants.{Inverted, Fixed}

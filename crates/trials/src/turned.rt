@@ -1,9 +1,13 @@
 // A small stage for trials: it puts one fixed bit in front, which is its marker, and inverts all elements behind it.
+ghost use Rattle.std.proofs.Common.{refl};
 ghost use Rattle.trials.specs.Homes.{turned_homes};
 ghost use Rattle.trials.specs.Turned.{turned, turned_markers};
 
 use refusal::Refusal;
-use stage::{Content, MarkedStage, Marker, Stage};
+use stage::{Content, MarkedStage, Marker, Stage, check_count, check_index};
+
+// The most elements that it takes.
+const MOST_ELEMENTS: usize = 100;
 
 #[derive(Clone, Copy)]
 pub struct Turned {
@@ -17,19 +21,19 @@ impl Stage for Turned {
 
     ghost at = { λ s. (turned s.front).at };
 
+    ghost meaning = { λ s. turned s.front };
+
+    ghost whole = { λ _. refl };
+
     ghost homes = { λ s. turned_homes s.front };
 
     fn length(&self, n: usize) -> Result<usize, Refusal> {
-        if n > 100 {
-            return Err(Refusal::CountNotTaken);
-        }
+        check_count(n, MOST_ELEMENTS)?;
         Ok(n + 1)
     }
 
     fn content(&self, n: usize, place: usize) -> Result<Content, Refusal> {
-        if place >= self.length(n)? {
-            return Err(Refusal::NoSuchPlace);
-        }
+        check_index(place, self.length(n)?)?;
         if place == 0 {
             return Ok(Content::Fixed(self.front));
         }
@@ -38,9 +42,7 @@ impl Stage for Turned {
 
     fn home(&self, n: usize, element: usize) -> Result<usize, Refusal> {
         self.length(n)?;
-        if element >= n {
-            return Err(Refusal::NoSuchPlace);
-        }
+        check_index(element, n)?;
         Ok(element + 1)
     }
 }
@@ -54,9 +56,7 @@ impl MarkedStage for Turned {
     }
 
     fn marker(&self, n: usize, index: usize) -> Result<Marker, Refusal> {
-        if index >= self.marker_count(n)? {
-            return Err(Refusal::NoSuchPlace);
-        }
+        check_index(index, self.marker_count(n)?)?;
         Ok(Marker {
             place: 0,
             bit: self.front,

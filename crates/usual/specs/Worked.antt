@@ -1,5 +1,4 @@
 -- The exchange's usual preamble, and the worked examples of the whole way out.
--- Assumes nothing.
 use Rattle.std.specs.Prelude.{◌≡◌, ℕ, ◌<◌, Bool, false, List, [], ◌∷◌, ◌++◌, map, replicate, Ok, codes, nat_eq}
 use Rattle.std.specs.List.{range_with_len}
 use Rattle.code.specs.Coder.{coded_bits}

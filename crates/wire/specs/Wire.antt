@@ -1,5 +1,4 @@
 -- The wire: it passes all elements on.
--- Assumes nothing.
 use Rattle.std.specs.Prelude.{ℕ, List, [], nat_le}
 use Rattle.stage.specs.declared.Content.TheVariants.{Carried}
 use Rattle.stage.specs.declared.Marker.{Marker}

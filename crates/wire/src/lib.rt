@@ -33,8 +33,7 @@ impl Stage for Wire {
     }
 
     fn content(&self, n: usize, place: usize) -> Result<Content, Refusal> {
-        check_count(n, MOST_ELEMENTS)?;
-        check_index(place, n)?;
+        check_index(place, self.length(n)?)?;
         Ok(Content::Carried(place))
     }
 

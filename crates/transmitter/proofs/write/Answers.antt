@@ -1,5 +1,6 @@
-use Rattle.std.proofs.Common.{◌≡◌, ◌+◌, ◌<◌, length, set, refl, ap, ◌∙◌, arith}
-use Rattle.refusal.proofs.Front.{filled, filled_more}
+use Rattle.std.proofs.Common.{◌≡◌, ◌+◌, ◌<◌, length, take, drop, ◌++◌, set, refl, ap, ◌∙◌, arith}
+use Rattle.std.proofs.lemmas.List.{length-take-le}
+use Rattle.refusal.proofs.Front.{filled, filled_more, filled_whole}
 use Rattle.transmitter.proofs.Octets.{octet_at, place_octet, place_not_refused, write_there, all_filled}
 use Rattle.transmitter.proofs.write.Goals as goal
 
@@ -15,13 +16,14 @@ loop-place-preserved g c =
     let s = c.args.stage.now in
     let m = g.S.Stage.meaning s in
     let p = c.loop-place.place in
-    let x = c.octet.result in
-    let within : p < length c.args.out.now = omega arith in
+    let x = c.from.result in
+    let part = take c.in_ok-length.length c.args.out.now in
+    let within : p < length part = omega arith in
     ap (λ l. set l p x) c.loop-place.invariant
-    ∙ filled_more (octet_at m c.args.text.now) p (p + 1) c.args.out.now x refl within
+    ∙ filled_more (octet_at m c.args.text.now) p (p + 1) part x refl within
     (place_octet m (g.S.Stage.homes s) c.args.text.now c.in_ok-n.n c.in_ok-n.ensures p
     c.in_ok-content.field-0 c.in_ok-element.field-0 x c.in_ok-content.ensures
-    c.in_ok-element.ensures c.octet.ensures)
+    c.in_ok-element.ensures c.from.ensures)
 
 pub returns : goal.returns
 returns g c =
@@ -30,10 +32,13 @@ returns g c =
     let text = c.args.text.now in
     let out = c.args.out.now in
     let len = c.in_ok-length.length in
-    let end : c.loop-place.place ≡ len = omega arith in
+    let f = octet_at m text in
+    let long : length (take len out) ≡ len = length-take-le len out c.if-out-length.false in
+    let end : c.loop-place.place ≡ len = omega (arith, long) in
     record {
       answer = write_there m (g.S.Stage.homes s) text c.in_ok-n.n c.in_ok-n.ensures len
           c.in_ok-length.ensures (length out) c.if-out-length.false;
-      memory = c.loop-place.invariant ∙ ap (λ z. filled (octet_at m text) z out) end
+      memory = ap (λ l. l ++ drop len out)
+          (c.loop-place.invariant ∙ ap (λ z. filled f z (take len out)) end ∙ filled_whole f len (take len out) (omega (arith, long)))
           ∙ all_filled m (g.S.Stage.homes s) text c.in_ok-n.n c.in_ok-n.ensures len c.in_ok-length.ensures out;
     }

@@ -6,4 +6,4 @@ use Rattle.transmitter.proofs.write.Given as goal
 -- the places before hold the burst's octets, and the rest is as found
 abbrev pub invariant-loop-place : goal.invariant-loop-place
 invariant-loop-place g l =
-    l.out ≡ filled (octet_at (g.S.Stage.meaning l.stage) l.text) l.place l.initial.out
+    l.octet-items ≡ filled (octet_at (g.S.Stage.meaning l.stage) l.text) l.place l.initial.octet-items

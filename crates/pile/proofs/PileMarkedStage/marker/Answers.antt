@@ -13,7 +13,7 @@ returns-then-index-above g c =
           (g.L.MarkedStage.markers lower) (g.U.MarkedStage.markers upper) c.args.n c.in_ok-middle.middle
           c.in_ok-middle.ensures c.in_ok-above.above c.args.index
           c.in_ok-above.ensures.count c.if-index-above.true;
-      fixed = c.in_ok-marker_count.ensures.fixed;
+      marked = c.in_ok-marker_count.ensures.marked;
     }
 
 pub returns-in_err-marker : goal.returns-in_err-marker
@@ -25,7 +25,7 @@ returns-in_err-marker g c =
     (g.L.MarkedStage.markers lower) (g.U.MarkedStage.markers upper) c.args.n c.in_ok-middle.middle
     c.in_ok-middle.ensures c.in_ok-above.above c.in_ok-marker_count.field-0 c.args.index
     c.in_err-marker.field-0.0 c.in_ok-above.ensures.count c.in_ok-marker_count.ensures.count
-    c.if-index-above.false c.if-branch.false c.in_err-marker.ensures.value)
+    c.if-index-above.false c.in_ok-check_index.ensures.below c.in_err-marker.ensures.value)
 
 pub returns : goal.returns
 returns g c =
@@ -38,6 +38,6 @@ returns g c =
           (g.L.MarkedStage.markers lower) (g.U.MarkedStage.markers upper) c.args.n c.in_ok-middle.middle
           c.in_ok-middle.ensures c.in_ok-above.above c.args.index c.in_ok-marker.field-0
           c.in_ok-above.ensures.count c.in_ok-marker.ensures.value
-          c.in_ok-marker.ensures.fixed c.if-index-above.false;
-      fixed = c.in_ok-marker_count.ensures.fixed;
+          c.in_ok-marker.ensures.marked c.if-index-above.false;
+      marked = c.in_ok-marker_count.ensures.marked;
     }

@@ -1,5 +1,5 @@
 use Rattle.std.proofs.Common.{◌+◌, ◌≤◌, rules}
-use Rattle.stage.proofs.Markers.{counts_fit, count_sum, told_sum, apart_sum}
+use Rattle.stage.proofs.Markers.{counts_fit, count_sum, marked_sum}
 use Rattle.pile.proofs.PileMarkedStage.marker_count.Goals as goal
 
 pub overflow_add-result : goal.overflow_add-result
@@ -13,8 +13,7 @@ overflow_add-result g c =
     c.in_ok-middle.ensures (g.L.Stage.homes lower) (g.U.Stage.homes upper)
     c.in_ok-above.above c.in_ok-below.below
     c.in_ok-above.ensures.count c.in_ok-below.ensures.count
-    c.in_ok-above.ensures.apart c.in_ok-above.ensures.fixed
-    c.in_ok-below.ensures.apart c.in_ok-below.ensures.fixed in
+    c.in_ok-above.ensures.marked c.in_ok-below.ensures.marked in
     search rules
 
 pub returns : goal.returns
@@ -32,6 +31,5 @@ returns g c =
     let below = c.in_ok-below.ensures in
     record {
       count = count_sum l u lm um n k is c.in_ok-above.above c.in_ok-below.below above.count below.count;
-      apart = apart_sum l u lm um n k is (g.U.Stage.homes upper) above.apart above.fixed below.apart below.fixed;
-      fixed = told_sum l u lm um n k is (g.U.Stage.homes upper) above.fixed below.fixed;
+      marked = marked_sum l u lm um n k is (g.U.Stage.homes upper) above.marked below.marked;
     }

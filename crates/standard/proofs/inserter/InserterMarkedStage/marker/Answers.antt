@@ -1,5 +1,5 @@
 use Rattle.std.proofs.Common.{rules}
-use Rattle.layout.proofs.InserterLaws.{inserter_count, inserter_told, inserter_marker}
+use Rattle.layout.proofs.InserterLaws.{inserter_count, inserter_marked, inserter_marker}
 use Rattle.standard.proofs.inserter.InserterMarkedStage.marker.Goals as goal
 
 pub overflow_mul-result : goal.overflow_mul-result
@@ -15,4 +15,4 @@ pub returns : goal.returns
 returns c =
     let all = inserter_count c.args.n in
     let here = inserter_marker c.args.n c.args.index (search rules) in
-    record { value = search rules; fixed = inserter_told c.args.n }
+    record { value = search rules; marked = inserter_marked c.args.n }

@@ -1,8 +1,8 @@
 use Rattle.std.proofs.Common.{rules}
-use Rattle.layout.proofs.InserterLaws.{inserter_count, inserter_told, inserter_apart}
+use Rattle.layout.proofs.InserterLaws.{inserter_count, inserter_marked}
 use Rattle.standard.proofs.inserter.InserterMarkedStage.marker_count.Goals as goal
 
 pub returns : goal.returns
 returns c =
     let all = inserter_count c.args.n in
-    record { count = search rules; apart = inserter_apart c.args.n; fixed = inserter_told c.args.n }
+    record { count = search rules; marked = inserter_marked c.args.n }

@@ -10,4 +10,4 @@ returns c =
     let n = c.args.n in
     let i = c.args.element in
     let t = (length_told (turned b) n c.in_ok-length.field-0 c.in_ok-length.ensures).0 in
-    home_answered (turned b) (turned_homes b) n i (i + 1) t c.if-element-n.false (turned_stands b n i c.if-element-n.false)
+    home_answered (turned b) (turned_homes b) n i (i + 1) t c.in_ok-check_index.ensures.below (turned_stands b n i c.in_ok-check_index.ensures.below)
