@@ -61,6 +61,7 @@ impl<M: MarkedStage> Search<'_, M> {
     {
         let starts = self.values.len() - self.burst + 1;
         let mut best = (0, self.fit_at(0)?);
+        // a start is a number to answer: `windows` has the values there, but takes no burst of length 0
         for start in 1..starts {
             let fit = self.fit_at(start)?;
             if fit > best.1 {

@@ -43,6 +43,7 @@ impl<'a> Receiver<'a> {
         ensures answer { result ≡ hear_answer (room self.old) (held self.old) heard.now }
         ensures after { Follows self.old (hears heard.now) self.new }
     {
+        // each value is looked at before any is appended
         for value in heard {
             if *value == i8::MIN {
                 return Err(Refusal::ValueOutOfRange);
@@ -62,6 +63,7 @@ impl<'a> Receiver<'a> {
         ensures answer { result ≡ lose_answer (held self.old) place n }
         ensures after { Follows self.old (loses place n) self.new }
     {
+        // by a difference, since place + n may be more than a usize holds
         if place > self.count || n > self.count - place {
             return Err(Refusal::NoSuchPlace);
         }

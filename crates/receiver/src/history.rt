@@ -64,6 +64,7 @@ pub fn play<M: MarkedStage>(
         return Err(Refusal::MemoryTooShort);
     }
     let mut receiver = Receiver::open(memory);
+    // by index: of answers written through `iter_mut` under a `zip` no proof knows what they became
     for (i, call) in calls.iter().enumerate() {
         answers[i] = receiver.answer(call);
     }

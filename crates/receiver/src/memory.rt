@@ -6,7 +6,7 @@ pub const GREATEST_CAPACITY: usize = 32_768;
 
 #[derive(Drop)]
 pub struct Receiver<'a> {
-    // the values heard stand in the places below the count
+    // the values heard stand in the places below the count, which stands beside them since the memory is lent
     pub(crate) values: &'a mut [i8],
     pub(crate) count: usize,
     // where a burst stands
