@@ -4,6 +4,7 @@
 ghost use Rattle.std.specs.Prelude.{◌≡◌, Some};
 ghost use Rattle.refusal.specs.Table.{number_of, sentence_of};
 
+use std::error::Error;
 use std::fmt;
 
 #[derive(Clone, Copy, PartialEq, Eq, Debug)]
@@ -88,3 +89,5 @@ impl fmt::Display for Refusal {
         f.write_str(self.sentence())
     }
 }
+
+impl Error for Refusal {}

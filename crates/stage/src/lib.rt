@@ -10,6 +10,8 @@ ghost use Rattle.stage.specs.declared.Marker.{Marker as MarkerOf};
 ghost use Rattle.stage.specs.Elements.{octet_of, element_of, inverse};
 ghost use Rattle.stage.specs.Marked.{Marked, count_answer, marker_answer};
 
+mod one_of_two;
+
 use refusal::Refusal;
 use std::ops::Not;
 

@@ -1,5 +1,5 @@
 use crate::turned::Turned;
-use either_stage::Either;
+use either::Either;
 use pile::Pile;
 use refusal::Refusal;
 use stage::{Content, MarkedStage, Marker, Stage};
