@@ -2,26 +2,21 @@
 // prints how long each search took.
 #![tactic(auto)]
 
-use code::coded_count;
+use code::{LONGEST_TEXT, coded_count};
 use receiver::{GREATEST_CAPACITY, Receiver};
 use refusal::Refusal;
-use stage::{MarkedStage, Stage};
-use std::io;
-use std::rt::Env;
+use stage::{MarkedStage, Marker, Stage};
 use std::time::Instant;
+use std::{env, io};
 use usual::usual_pile;
 
-// Puts a burst's markers at full strength where they stand from a start on.
-fn imprint<M: MarkedStage>(
-    values: &mut [i8],
-    pile: &M,
-    n: usize,
-    start: usize,
-) -> Result<(), Refusal> {
+// Puts a burst's markers at full strength in the places where they stand.
+fn imprint<M: MarkedStage>(burst: &mut [i8], pile: &M, n: usize) -> Result<(), Refusal> {
+    // a stage tells one marker at a time, so there is no list of them to go over
     for index in 0..pile.marker_count(n)? {
-        let marker = pile.marker(n, index)?;
-        if marker.place < values.len() && start < values.len() - marker.place {
-            values[start + marker.place] = if marker.bit { 127 } else { -127 };
+        let Marker { place, bit } = pile.marker(n, index)?;
+        if let Some(value) = burst.get_mut(place) {
+            *value = if bit { 127 } else { -127 };
         }
     }
     Ok(())
@@ -31,19 +26,18 @@ fn imprint<M: MarkedStage>(
 fn found_at_the_end<M: MarkedStage>(pile: &M, m: usize) -> Result<(usize, i32), Refusal> {
     let n = coded_count(m)?;
     let start = GREATEST_CAPACITY.saturating_sub(pile.length(n)?);
-    let mut values = [0i8; GREATEST_CAPACITY];
-    imprint(&mut values, pile, n, start)?;
-    let mut memory = [0i8; GREATEST_CAPACITY];
+    let mut values = [0; GREATEST_CAPACITY];
+    imprint(&mut values[start..], pile, n)?;
+    let mut memory = [0; GREATEST_CAPACITY];
     let mut receiver = Receiver::open(&mut memory);
     receiver.hear(&values)?;
     receiver.find(pile, m)
 }
 
 fn main(rt: HostRuntime) -> io::Result<()> {
-    let mut word = [0u8; 16];
-    let timed = rt.arg(1, &mut word).is_ok();
+    let timed = env::args(&rt)?.nth(1).is_some();
     let pile = usual_pile();
-    for m in [1, 240] {
+    for m in [1, LONGEST_TEXT] {
         let begun = Instant::now(&rt)?;
         match found_at_the_end(&pile, m) {
             Ok((start, fit)) => println!(rt; "{m} octets: start {start}, fit {fit}")?,

@@ -1,7 +1,6 @@
 -- The earliest best start: there is one, there is only one, and how a loop comes to it.
--- Assumes nothing.
-use Rattle.std.proofs.Common.{◌≡◌, ℕ, zero, suc, ◌+◌, ◌<◌, Bool, true, false, ℤ, ◌≤ℤ◌, ◌<ℤ◌, Decides, sym, refl, ap, ◌∙◌, subst, ⊎_elim, add-one, arith}
-use lib.Signed.{le_z, lt_z}
+use Rattle.std.proofs.Common.{◌≡◌, ℕ, zero, suc, ◌+◌, ◌<◌, Bool, true, false, ℤ, ◌≤ℤ◌, ◌<ℤ◌, Decides, sym, refl, ap, subst, ⊎_elim, add-one, arith}
+use lib.Signed.{le_z}
 use Rattle.std.proofs.lemmas.Int.{ints, by_lt_z}
 use Rattle.std.proofs.lemmas.Bool.{cases_eq, cases_Bool}
 use Rattle.std.proofs.lemmas.Bool.Decides.{Decides-below_and}
@@ -35,7 +34,7 @@ best_is f n b best =
     (cases_Bool (unbeaten f n k)))
 
 -- the loop's start and its two steps
-pub best_none : (f : ℕ → ℤ) → Best f 1 0
+best_none : (f : ℕ → ℤ) → Best f 1 0
 best_none f =
     record {
       within = omega arith;
@@ -43,7 +42,7 @@ best_none f =
       earliest = λ s h. absurd (omega arith);
     }
 
-pub best_keeps : (f : ℕ → ℤ) (n b : ℕ) → Best f n b → f n ≤ℤ f b → Best f (n + 1) b
+best_keeps : (f : ℕ → ℤ) (n b : ℕ) → Best f n b → f n ≤ℤ f b → Best f (n + 1) b
 best_keeps f n b best not_more =
     record {
       within = omega (arith, best.within);
@@ -51,26 +50,13 @@ best_keeps f n b best not_more =
       earliest = best.earliest;
     }
 
-pub best_takes : (f : ℕ → ℤ) (n b : ℕ) → Best f n b → f b <ℤ f n → Best f (n + 1) n
+best_takes : (f : ℕ → ℤ) (n b : ℕ) → Best f n b → f b <ℤ f n → Best f (n + 1) n
 best_takes f n b best more =
     record {
       within = omega arith;
       greatest = λ s h. ⊎_elim {C = f s ≤ℤ f n} (λ e. rw e (omega (arith, ints))) (λ d. let below : f s ≤ℤ f b = best.greatest s (omega arith) in omega (arith, ints)) (cases_eq s n);
       earliest = λ s h. let below : f s ≤ℤ f b = best.greatest s h in omega (arith, ints);
     }
-
--- a turn of the loop: x is the greatest fit so far, y the fit at n, b' and z what they become
-pub turn_takes : (f : ℕ → ℤ) (n b b' : ℕ) (x y z : ℤ) → Best f n b → x ≡ f b → y ≡ f n → lt_z x y ≡ true → b' ≡ n → z ≡ y → Best f (n + 1) b' × (z ≡ f b')
-turn_takes f n b b' x y z best is_x is_y more is_b is-z =
-    let less : x <ℤ y = grind (arith, ints) in
-    let less' : f b <ℤ f n = rw (← is_x, ← is_y) less in
-    rw is_b (best_takes f n b best less', is-z ∙ is_y)
-
-pub turn_keeps : (f : ℕ → ℤ) (n b b' : ℕ) (x y z : ℤ) → Best f n b → x ≡ f b → y ≡ f n → lt_z x y ≡ false → b' ≡ b → z ≡ x → Best f (n + 1) b' × (z ≡ f b')
-turn_keeps f n b b' x y z best is_x is_y no_more is_b is-z =
-    let less : y ≤ℤ x = grind (arith, ints) in
-    let less' : f n ≤ℤ f b = rw (← is_x, ← is_y) less in
-    rw is_b (best_keeps f n b best less', is-z ∙ is_x)
 
 -- there is one
 some_best : (f : ℕ → ℤ) (n : ℕ) → (b : ℕ) × Best f (suc n) b

@@ -1,10 +1,9 @@
 -- A stage has at most 32,768 markers: they stand at different places of its outgoing stream.
--- Assumes nothing.
-use Rattle.std.proofs.Common.{◌≡◌, ℕ, zero, suc, ◌<◌, ◌≤◌, cond, T, eqb, ◌⊎◌, List, length, get_or, sym, ◌∙◌, inl, inr, ⊎_elim, arith}
+use Rattle.std.proofs.Common.{◌≡◌, ℕ, zero, suc, ◌<◌, ◌≤◌, true, cond, T, eqb, ◌⊎◌, List, length, get_or, sym, ◌∙◌, inl, inr, ⊎_elim, arith}
 use Rattle.std.proofs.lemmas.Bool.{cases_eq, eq-eqb, ne_eqb, cond-true, cond-false}
 use Rattle.stage.specs.declared.Marker.{Marker}
-use Rattle.stage.specs.Meaning.{Meaning}
-use Rattle.stage.specs.Marked.{Apart, Told, no_marker}
+use Rattle.stage.specs.Meaning.{Meaning, Homes}
+use Rattle.stage.specs.Marked.{Marked, no_marker}
 
 -- f with the value m, if it is taken, given up for the value v
 moved : (ℕ → ℕ) → ℕ → ℕ → ℕ → ℕ
@@ -49,8 +48,9 @@ pigeonhole (suc m) (suc n) f below apart =
     let fewer : n ≤ m = pigeonhole m n g g-below g-apart in
     omega arith
 
-pub few_markers : (m : Meaning) (markers : ℕ → List Marker) (n : ℕ) → T (m.takes n) → m.size n ≤ 32768 → Apart m.takes markers n → Told m markers n → length (markers n) ≤ 32768
-few_markers m markers n takes most apart told =
+pub few_markers : (m : Meaning) (markers : ℕ → List Marker) (n : ℕ) → Homes m → Marked m markers n → m.takes n ≡ true → length (markers n) ≤ 32768
+few_markers m markers n homes marked taken =
+    let takes : T (m.takes n) = rw taken tt in
     let fewer : length (markers n) ≤ m.size n =
-    pigeonhole (m.size n) (length (markers n)) (λ k. (get_or (markers n) k no_marker).place) (λ k h. (told takes k h).0) (apart takes) in
-    omega arith
+    pigeonhole (m.size n) (length (markers n)) (λ k. (get_or (markers n) k no_marker).place) (λ k h. (marked.1 takes k h).0) (marked.0 takes) in
+    omega (arith, homes.most n takes)

@@ -1,23 +1,19 @@
--- The steps of the sum over the markers. Assumes nothing.
-use Rattle.std.proofs.Common.{◌≡◌, ℕ, ◌+◌, ◌*◌, ◌<◌, ◌≤◌, Bool, true, false, T, List, length, get_or, take, ℤ, pos, negsuc, ◌+ℤ◌, neg_ℤ, ◌≤ℤ◌, Ok, Result, sym, refl, arith, w32, to_z, of_z}
+-- The steps of the sum over the markers.
+use Rattle.std.proofs.Common.{◌≡◌, ℕ, ◌+◌, ◌*◌, ◌<◌, ◌≤◌, true, List, length, get_or, take, ℤ, pos, negsuc, ◌+ℤ◌, neg_ℤ, ◌≤ℤ◌, Ok, Result, sym, arith, w32, to_z, of_z}
 use Rattle.std.proofs.lemmas.Int.{ints}
 use Rattle.std.proofs.lemmas.List.Sums.{fold_more}
 use Rattle.std.proofs.lemmas.Bool.{lt-leb}
 use Rattle.refusal.specs.declared.Refusal.{Refusal}
 use Rattle.stage.specs.declared.Marker.{Marker}
+use Rattle.stage.specs.Meaning.{Meaning}
 use Rattle.stage.specs.Marked.{marker_answer, no_marker}
 use Rattle.fit.specs.Fit.{agreement, fit}
 
--- a test that holds is true
-pub holds : (b : Bool) → T b → b ≡ true
-holds true h = refl
-holds false h = elim h [ ]
-
 -- a marker that exists is told
-pub told_marker : (takes : ℕ → Bool) (markers : ℕ → List Marker) (n k : ℕ) (r : Result Marker Refusal) (m : Marker) → T (takes n) → k < length (markers n) → r ≡ marker_answer takes markers n k → r ≡ Ok m → m ≡ get_or (markers n) k no_marker
-told_marker takes markers n k r m t below e is =
-    let told : marker_answer takes markers n k ≡ Ok (get_or (markers n) k no_marker) =
-    rw (holds (takes n) t, lt-leb (length (markers n)) k below) in
+pub told_marker : (meaning : Meaning) (markers : ℕ → List Marker) (n k : ℕ) (r : Result Marker Refusal) (m : Marker) → meaning.takes n ≡ true → k < length (markers n) → r ≡ marker_answer meaning markers n k → r ≡ Ok m → m ≡ get_or (markers n) k no_marker
+told_marker meaning markers n k r m t below e is =
+    let told : marker_answer meaning markers n k ≡ Ok (get_or (markers n) k no_marker) =
+    rw (t, lt-leb (length (markers n)) k below) in
     cc
 
 -- one marker more

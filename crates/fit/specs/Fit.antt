@@ -1,5 +1,4 @@
 -- How well a pile's markers fit the values heard, and the start at which they fit best.
--- Assumes nothing.
 use Rattle.std.specs.Prelude.{ℕ, zero, suc, ◌+◌, ◌-◌, ◌*◌, ◌<◌, Bool, true, cond, not, ◌&&◌, List, length, ℤ, pos, ◌+ℤ◌, neg_ℤ, ◌≤ℤ◌, ◌<ℤ◌, Ok, fold, Result, ◌==◌, int_le, int_lt, nat_lt, slice_index_or}
 use Rattle.refusal.specs.declared.Refusal.{Refusal}
 use Rattle.refusal.specs.declared.Refusal.TheVariants.{BurstNotHeard, NoMarker, PoorFit, CountNotTaken}

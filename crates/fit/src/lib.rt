@@ -1,9 +1,8 @@
 // Where a burst stands among the values heard: the start at which a pile's markers fit best.
 #![tactic(auto)]
 
-ghost use Rattle.std.specs.Prelude.{◌≡◌, ◌+◌, ◌<◌, ◌≤◌, T, length, pos, negsuc, neg_ℤ, ◌≤ℤ◌, if◌then◌else◌, Ok};
-ghost use Rattle.stage.specs.Marked.{Apart};
-ghost use Rattle.fit.specs.Fit.{fit, best_of, best_start_answer};
+ghost use Rattle.std.specs.Prelude.{◌≡◌, ◌+◌, ◌<◌, ◌≤◌, true, length, pos, negsuc, neg_ℤ, ◌≤ℤ◌, if◌then◌else◌, Ok};
+ghost use Rattle.fit.specs.Fit.{fit, best_of, starts, best_start_answer};
 
 use refusal::Refusal;
 use stage::MarkedStage;
@@ -24,55 +23,55 @@ fn agreement(value: i8, bit: bool) -> i32
     }
 }
 
-// The fit at a start whose whole burst was heard. The only place where markers are asked for.
-fn fit_at<M: MarkedStage>(
-    values: &[i8],
-    stage: &M,
+// A search for a burst of n elements through a stage that takes so many, among values long enough for it.
+#[derive(Drop)]
+struct Search<'a, M: MarkedStage> {
+    values: &'a [i8],
+    stage: &'a M,
     n: usize,
+    // how long the burst is
+    burst: usize,
+    // how many markers it has
     markers: usize,
-    start: usize,
-) -> Result<i32, Refusal>
-    requires takes { T (M.Stage.takes stage.now n) }
-    requires all { markers ≡ length (M.MarkedStage.markers stage.now n) }
-    requires apart { Apart (M.Stage.takes stage.now) (M.MarkedStage.markers stage.now) n }
-    requires heard { start + M.Stage.size stage.now n ≤ length values.now }
-    ensures value { result ≡ Ok (fit values.now (M.MarkedStage.markers stage.now n) start) }
-    ensures few { markers ≤ 32768 }
-{
-    let mut sum = 0;
-    for index in 0..markers {
-        let marker = stage.marker(n, index)?;
-        sum += agreement(values[start + marker.place], marker.bit);
-    }
-    Ok(sum)
+    ghost taken: { (M.Stage.meaning stage.now).takes n ≡ true },
+    ghost places: { burst ≡ (M.Stage.meaning stage.now).size n },
+    ghost heard: { burst ≤ length values.now },
+    ghost all: { markers ≡ length (M.MarkedStage.markers stage.now n) },
+    ghost few: { markers ≤ 32768 },
 }
 
-// The earliest of so many starts with the greatest fit, and that fit.
-fn earliest_best<M: MarkedStage>(
-    values: &[i8],
-    stage: &M,
-    n: usize,
-    markers: usize,
-    starts: usize,
-) -> Result<(usize, i32), Refusal>
-    requires takes { T (M.Stage.takes stage.now n) }
-    requires all { markers ≡ length (M.MarkedStage.markers stage.now n) }
-    requires apart { Apart (M.Stage.takes stage.now) (M.MarkedStage.markers stage.now) n }
-    requires some { 0 < starts }
-    requires heard { starts + M.Stage.size stage.now n ≤ length values.now + 1 }
-    ensures value { result ≡ Ok (best_of (fit values.now (M.MarkedStage.markers stage.now n)) starts) }
-    ensures few { markers ≤ 32768 }
-{
-    let mut best = 0;
-    let mut greatest = fit_at(values, stage, n, markers, 0)?;
-    for start in 1..starts {
-        let fit = fit_at(values, stage, n, markers, start)?;
-        if fit > greatest {
-            best = start;
-            greatest = fit;
+impl<M: MarkedStage> Search<'_, M> {
+    // The fit at a start whose whole burst was heard. The only place where markers are asked for. Inlined, so that what
+    // the stage answers is inlined into the sum: that halves the time of a search.
+    #[inline(always)]
+    fn fit_at(&self, start: usize) -> Result<i32, Refusal>
+        requires { start + self.now.burst ≤ length self.now.values.now }
+        ensures { result ≡ Ok (fit self.now.values.now (M.MarkedStage.markers self.now.stage.now self.now.n) start) }
+    {
+        let mut sum = 0;
+        // a stage tells one marker at a time, so there is no list of them to go over
+        for index in 0..self.markers {
+            let marker = self.stage.marker(self.n, index)?;
+            sum += agreement(self.values[start + marker.place], marker.bit);
         }
+        Ok(sum)
     }
-    Ok((best, greatest))
+
+    // The earliest of the starts with the greatest fit, and that fit.
+    fn earliest_best(&self) -> Result<(usize, i32), Refusal>
+        ensures { result ≡ Ok (best_of (fit self.now.values.now (M.MarkedStage.markers self.now.stage.now self.now.n)) (starts (length self.now.values.now) self.now.burst)) }
+    {
+        let starts = self.values.len() - self.burst + 1;
+        let mut best = (0, self.fit_at(0)?);
+        // a start is a number to answer: `windows` has the values there, but takes no burst of length 0
+        for start in 1..starts {
+            let fit = self.fit_at(start)?;
+            if fit > best.1 {
+                best = (start, fit);
+            }
+        }
+        Ok(best)
+    }
 }
 
 // Where a burst of n elements through a pile stands among the values heard: the earliest of the best
@@ -92,7 +91,15 @@ pub fn best_start<M: MarkedStage>(
     if markers == 0 {
         return Err(Refusal::NoMarker);
     }
-    let (start, fit) = earliest_best(values, stage, n, markers, values.len() - length + 1)?;
+    let search = Search {
+        values,
+        stage,
+        n,
+        burst: length,
+        markers,
+    };
+    let (start, fit) = search.earliest_best()?;
+    // a `From` would have to hold at every usize, where the search knows that its markers are few
     if fit < LEAST_FIT * markers as i32 {
         return Err(Refusal::PoorFit);
     }

@@ -1,4 +1,3 @@
-pub mod Writes
 pub mod Followed
 pub mod Plays
 pub mod Law

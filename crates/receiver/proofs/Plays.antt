@@ -1,4 +1,4 @@
--- A list of calls one longer. Assumes nothing.
+-- A list of calls one longer.
 use Rattle.std.proofs.Common.{◌≡◌, ℕ, zero, suc, ◌+◌, ◌<◌, ◌≤◌, List, [], ◌∷◌, ◌++◌, map, length, get_or, take, drop, set, ℤ, sym, refl, ap, ◌∙◌, arith}
 use Rattle.std.proofs.lemmas.List.{drop_more, take_more, get_or-map, set_at, append_assoc, map-set, length-map, length-take-le, take_all}
 use Rattle.std.proofs.lemmas.List.Sums.{fold_push}

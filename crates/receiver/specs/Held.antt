@@ -1,6 +1,5 @@
 -- What a receiver's fields stand for.
--- Assumes nothing.
-use Rattle.std.specs.Prelude.{◌≡◌, ℕ, ◌+◌, List, ◌++◌, length, take, drop, ℤ}
+use Rattle.std.specs.Prelude.{◌≡◌, ℕ, List, length, take, ℤ}
 use Rattle.receiver.specs.State.{State, Request, capacity, next, laid}
 use Rattle.receiver.specs.declared.memory.Receiver.{Receiver}
 
@@ -22,7 +21,3 @@ pub record Follows (before : Receiver) (call : Request) (after : Receiver) : Typ
   pub memory : memory_of after ≡ laid (held after).standing (memory_of before)
   pub long : length (memory_of after) ≡ length (memory_of before)
   pub same : after.values.ghost_name ≡ before.values.ghost_name
-
--- memory with values written from a place on
-abbrev pub written : List ℤ → ℕ → List ℤ → List ℤ
-written memory place values = take place memory ++ (values ++ drop (place + length values) memory)

@@ -1,6 +1,5 @@
 -- Whole histories of calls: what each is answered, and what is held and left in memory, from the length of the value
 -- memory and the calls alone.
--- Assumes nothing.
 use Rattle.std.specs.Prelude.{◌≡◌, ℕ, ◌+◌, ◌*◌, ◌<◌, ◌≤◌, List, [], ◌∷◌, length, take, ℤ, pos, ◌≤ℤ◌, ◌<ℤ◌, Ok, Err, fold, Result, slice_index_or}
 use Rattle.refusal.specs.declared.Refusal.{Refusal}
 use Rattle.code.specs.Coder.{coded_count}
@@ -11,8 +10,8 @@ use Rattle.receiver.specs.State.{State, opened, Request, begins, hears, loses, f
 use Rattle.receiver.specs.Reading.{read_answer, ReadWell}
 use Rattle.receiver.specs.declared.history.Call.{Call}
 use Rattle.receiver.specs.declared.history.Call.TheVariants.{Begin, Hear, Lose, Find}
-use Rattle.receiver.specs.declared.history.Answer.{Answer}
-use Rattle.receiver.specs.declared.history.Answer.TheVariants.{Refused, Done, Found}
+use Rattle.receiver.specs.declared.history.Accepted.{Accepted}
+use Rattle.receiver.specs.declared.history.Accepted.TheVariants.{Done, Found}
 
 -- what a call is answered
 pub data Reply : Type 0 where
@@ -91,7 +90,7 @@ as_request meaning markers (Lose place n) = loses place n
 as_request meaning markers (Find pile m) = finds (meaning pile.now) (markers pile.now) m
 
 -- an answer of the code, case by case
-abbrev pub as_reply : Answer → Reply
-as_reply (Refused e) = refused e
-as_reply Done = done
-as_reply (Found start greatest) = found start greatest
+abbrev pub as_reply : Result Accepted Refusal → Reply
+as_reply (Ok Done) = done
+as_reply (Ok (Found start greatest)) = found start greatest
+as_reply (Err e) = refused e

@@ -1,8 +1,7 @@
 // The calls of a receiver. Each answers what the rules say, and a refused one leaves everything as found.
-ghost use Rattle.std.specs.Prelude.{◌≡◌, ◌+◌, ◌-◌, ◌≤◌, length, replicate, pos};
-ghost use Rattle.fit.specs.Fit.{best_start_answer};
+ghost use Rattle.std.specs.Prelude.{◌≡◌, ◌+◌};
 ghost use Rattle.receiver.specs.State.{opened, hear_answer, lose_answer, find_answer, begins, hears, loses, finds};
-ghost use Rattle.receiver.specs.Held.{memory_of, room, held, Follows, written};
+ghost use Rattle.receiver.specs.Held.{memory_of, room, held, Follows};
 
 use crate::memory::{GREATEST_CAPACITY, Receiver};
 use code::coded_count;
@@ -39,26 +38,12 @@ impl<'a> Receiver<'a> {
         self.values.len().min(GREATEST_CAPACITY) - self.count
     }
 
-    // Puts values behind those that stand.
-    fn append(&mut self, heard: &[i8])
-        requires { self.old.count + length heard.now ≤ room self.old }
-        ensures memory { memory_of self.new ≡ written (memory_of self.old) self.old.count heard.now }
-        ensures count { self.new.count ≡ self.old.count + length heard.now }
-        ensures start { self.new.start ≡ self.old.start }
-        ensures same { self.new.values.ghost_name ≡ self.old.values.ghost_name }
-    {
-        let count = self.count;
-        for i in 0..heard.len() {
-            self.values[count + i] = heard[i];
-        }
-        self.count = count + heard.len();
-    }
-
     // Appends values, or none of them.
     pub fn hear(&mut self, heard: &[i8]) -> Result<(), Refusal>
         ensures answer { result ≡ hear_answer (room self.old) (held self.old) heard.now }
         ensures after { Follows self.old (hears heard.now) self.new }
     {
+        // each value is looked at before any is appended
         for value in heard {
             if *value == i8::MIN {
                 return Err(Refusal::ValueOutOfRange);
@@ -67,21 +52,10 @@ impl<'a> Receiver<'a> {
         if heard.len() > self.free() {
             return Err(Refusal::CapacityExceeded);
         }
-        self.append(heard);
+        let end = self.count + heard.len();
+        self.values[self.count..end].copy_from_slice(heard);
+        self.count = end;
         Ok(())
-    }
-
-    // Sets n values from a place on to 0.
-    fn erase(&mut self, place: usize, n: usize)
-        requires { place + n ≤ self.old.count }
-        ensures memory { memory_of self.new ≡ written (memory_of self.old) place (replicate n (pos 0)) }
-        ensures count { self.new.count ≡ self.old.count }
-        ensures start { self.new.start ≡ self.old.start }
-        ensures same { self.new.values.ghost_name ≡ self.old.values.ghost_name }
-    {
-        for i in 0..n {
-            self.values[place + i] = 0;
-        }
     }
 
     // Sets n values from a place on to 0: nothing is known of them.
@@ -89,19 +63,19 @@ impl<'a> Receiver<'a> {
         ensures answer { result ≡ lose_answer (held self.old) place n }
         ensures after { Follows self.old (loses place n) self.new }
     {
+        // by a difference, since place + n may be more than a usize holds
         if place > self.count || n > self.count - place {
             return Err(Refusal::NoSuchPlace);
         }
-        self.erase(place, n);
+        self.values[place..place + n].fill(0);
         Ok(())
     }
 
-    // Where a burst of n elements through a pile stands best among the values heard.
-    fn best<M: MarkedStage>(&self, stage: &M, n: usize) -> Result<(usize, i32), Refusal>
-        ensures { result ≡ best_start_answer (M.Stage.meaning stage.now) (M.MarkedStage.markers stage.now) n (held self.now).standing }
+    // The values standing.
+    fn standing(&self) -> &[i8]
+        ensures { result.now ≡ (held self.now).standing }
     {
-        let count = self.count;
-        best_start(&self.values[0..count], stage, n)
+        &self.values[..self.count]
     }
 
     // Where a burst of m octets through a pile stands: the start is set to it, and answered with the fit there.
@@ -110,8 +84,8 @@ impl<'a> Receiver<'a> {
         ensures after { Follows self.old (finds (M.Stage.meaning stage.now) (M.MarkedStage.markers stage.now) m) self.new }
     {
         let n = coded_count(m)?;
-        let best = self.best(stage, n)?;
-        self.start = best.0;
-        Ok(best)
+        let (start, fit) = best_start(self.standing(), stage, n)?;
+        self.start = start;
+        Ok((start, fit))
     }
 }

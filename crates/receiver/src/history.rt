@@ -1,10 +1,10 @@
 // Whole histories: a list of calls played on a receiver, each answer being the one that the rules give.
-ghost use Rattle.std.specs.Prelude.{◌≡◌, ℕ, ◌<◌, true, map, length, is_ok, if◌then◌else◌, Ok, nat_lt};
+ghost use Rattle.std.specs.Prelude.{◌≡◌, true, map, length, is_ok, if◌then◌else◌, Ok, nat_lt};
 ghost use Rattle.refusal.specs.declared.Refusal.TheVariants.{MemoryTooShort};
 ghost use Rattle.refusal.specs.Answer.{refused_when, after};
 ghost use Rattle.receiver.specs.State.{opened, capacity};
 ghost use Rattle.receiver.specs.Held.{room, held, Follows};
-ghost use Rattle.receiver.specs.History.{reply, replies, answered, done, found, memory_after, as_request, as_reply, Lawful};
+ghost use Rattle.receiver.specs.History.{reply, replies, memory_after, as_request, as_reply, Lawful};
 
 use crate::memory::Receiver;
 use refusal::Refusal;
@@ -19,35 +19,15 @@ pub enum Call<'c, M> {
     Find { pile: &'c M, m: usize },
 }
 
-// What a call answered.
+// What an accepted call answers.
 #[derive(Clone, Copy, PartialEq, Eq, Debug)]
-pub enum Answer {
-    Refused(Refusal),
+pub enum Accepted {
     Done,
     Found { start: usize, fit: i32 },
 }
 
-impl Answer {
-    // Of a call that answers nothing but that it was accepted.
-    fn of_done(res: Result<(), Refusal>) -> Answer
-        ensures { as_reply result ≡ answered (λ _. done) res }
-    {
-        match res {
-            Ok(()) => Answer::Done,
-            Err(refusal) => Answer::Refused(refusal),
-        }
-    }
-
-    // Of a find.
-    fn of_found(res: Result<(usize, i32), Refusal>) -> Answer
-        ensures { as_reply result ≡ answered (λ best. found best.0 best.1) res }
-    {
-        match res {
-            Ok((start, fit)) => Answer::Found { start, fit },
-            Err(refusal) => Answer::Refused(refusal),
-        }
-    }
-}
+// What a call answers.
+pub type Answer = Result<Accepted, Refusal>;
 
 impl<'a> Receiver<'a> {
     // Makes a call.
@@ -55,14 +35,16 @@ impl<'a> Receiver<'a> {
         ensures answer { as_reply result ≡ reply (room self.old) (held self.old) (as_request (λ s. M.Stage.meaning s) M.MarkedStage.markers call.now) }
         ensures after { Follows self.old (as_request (λ s. M.Stage.meaning s) M.MarkedStage.markers call.now) self.new }
     {
-        match call {
+        match *call {
             Call::Begin => {
                 self.begin();
-                Answer::Done
+                Ok(Accepted::Done)
             }
-            Call::Hear(heard) => Answer::of_done(self.hear(*heard)),
-            Call::Lose { place, n } => Answer::of_done(self.lose(*place, *n)),
-            Call::Find { pile, m } => Answer::of_found(self.find(*pile, *m)),
+            Call::Hear(heard) => self.hear(heard).map(|()| Accepted::Done),
+            Call::Lose { place, n } => self.lose(place, n).map(|()| Accepted::Done),
+            Call::Find { pile, m } => self
+                .find(pile, m)
+                .map(|(start, fit)| Accepted::Found { start, fit }),
         }
     }
 }
@@ -82,8 +64,9 @@ pub fn play<M: MarkedStage>(
         return Err(Refusal::MemoryTooShort);
     }
     let mut receiver = Receiver::open(memory);
-    for i in 0..calls.len() {
-        answers[i] = receiver.answer(&calls[i]);
+    // by index: of answers written through `iter_mut` under a `zip` no proof knows what they became
+    for (i, call) in calls.iter().enumerate() {
+        answers[i] = receiver.answer(call);
     }
     Ok(())
 }

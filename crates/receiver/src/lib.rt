@@ -5,5 +5,5 @@ mod calls;
 mod history;
 mod memory;
 
-pub use history::{Answer, Call, play};
+pub use history::{Accepted, Answer, Call, play};
 pub use memory::{GREATEST_CAPACITY, Receiver};

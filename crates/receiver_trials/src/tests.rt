@@ -1,6 +1,6 @@
 // The receiver on worked examples. Every expected answer is worked out from the rules, and none from a run.
-use either_stage::Either;
-use receiver::{Answer, Call, Receiver, play};
+use either::Either;
+use receiver::{Accepted, Answer, Call, Receiver, play};
 use refusal::Refusal;
 use standard::Lead;
 use std::test::Fail;
@@ -18,10 +18,8 @@ const WEAK_LEAD: [i8; 8] = [-64, -64, 64, -64, 64, 64, -64, 64];
 // Values of constant strength, with eight others from a place on.
 fn noise_around(noise: i8, place: usize, burst: [i8; 8]) -> [i8; 80] {
     let mut values = [noise; 80];
-    for k in 0..8 {
-        if place < 80 && place + k < 80 {
-            values[place + k] = burst[k];
-        }
+    for (value, heard) in values.iter_mut().skip(place).zip(burst) {
+        *value = heard;
     }
     values
 }
@@ -96,110 +94,72 @@ fn the_least_fit(rt: HostRuntime) -> Result<(), Fail> {
     Ok(())
 }
 
-// Calls of all kinds over 64 values, refused ones among them.
-fn played<'c>(
-    lead: &'c Mixed,
-    wire: &'c Mixed,
-    nothing: &'c [i8],
-    nine: &'c [i8],
-    silence: &'c [i8],
-    bad: &'c [i8],
-    burst: &'c [i8],
-    weak: &'c [i8],
-    answers: &mut [Answer],
-) -> Result<(), Refusal> {
-    let calls = [
-        Call::Begin,
-        Call::Hear(nothing),
-        Call::Lose { place: 0, n: 0 },
-        Call::Lose { place: 0, n: 1 },
-        Call::Find { pile: lead, m: 0 },
-        Call::Find { pile: lead, m: 241 },
-        Call::Find { pile: lead, m: 1 },
-        Call::Find { pile: wire, m: 1 },
-        Call::Hear(burst),
-        Call::Hear(bad),
-        Call::Hear(silence),
-        Call::Find { pile: lead, m: 1 },
-        Call::Find { pile: wire, m: 1 },
-        Call::Hear(nine),
-        Call::Hear(burst),
-        Call::Find { pile: lead, m: 1 },
-        Call::Lose { place: 0, n: 4 },
-        Call::Find { pile: lead, m: 1 },
-        Call::Lose { place: 60, n: 4 },
-        Call::Lose { place: 60, n: 5 },
-        Call::Lose { place: 64, n: 0 },
-        Call::Lose { place: 65, n: 0 },
-        Call::Begin,
-        Call::Find { pile: lead, m: 1 },
-        Call::Hear(weak),
-        Call::Find { pile: lead, m: 1 },
-        Call::Find { pile: wire, m: 1 },
-        Call::Lose { place: 5, n: 1 },
-        Call::Find { pile: lead, m: 1 },
-        Call::Hear(nine),
-        Call::Hear(bad),
-        Call::Begin,
-    ];
-    let mut memory = [7i8; 64];
-    play(&mut memory, &calls, answers)
+// What an accepted call answers that finds nothing.
+const DONE: Answer = Ok(Accepted::Done);
+
+// What a find answers.
+fn found(start: usize, fit: i32) -> Answer {
+    Ok(Accepted::Found { start, fit })
 }
 
+// Calls of all kinds over 64 values, refused ones among them, each with what it has to answer.
 #[test]
 fn a_history(rt: HostRuntime) -> Result<(), Fail> {
-    let expected = [
-        Answer::Done,
-        Answer::Done,
-        Answer::Done,
-        Answer::Refused(Refusal::NoSuchPlace),
-        Answer::Refused(Refusal::EmptyText),
-        Answer::Refused(Refusal::TextTooLong),
-        Answer::Refused(Refusal::BurstNotHeard),
-        Answer::Refused(Refusal::BurstNotHeard),
-        Answer::Done,
-        Answer::Refused(Refusal::ValueOutOfRange),
-        Answer::Done,
-        Answer::Found {
-            start: 0,
-            fit: 1016,
-        },
-        Answer::Refused(Refusal::NoMarker),
-        Answer::Refused(Refusal::CapacityExceeded),
-        Answer::Done,
-        Answer::Found {
-            start: 0,
-            fit: 1016,
-        },
-        Answer::Done,
-        Answer::Refused(Refusal::PoorFit),
-        Answer::Done,
-        Answer::Refused(Refusal::NoSuchPlace),
-        Answer::Done,
-        Answer::Refused(Refusal::NoSuchPlace),
-        Answer::Done,
-        Answer::Refused(Refusal::BurstNotHeard),
-        Answer::Done,
-        Answer::Found { start: 5, fit: 512 },
-        Answer::Refused(Refusal::NoMarker),
-        Answer::Done,
-        Answer::Refused(Refusal::PoorFit),
-        Answer::Refused(Refusal::CapacityExceeded),
-        Answer::Refused(Refusal::ValueOutOfRange),
-        Answer::Done,
+    let lead = Mixed::Left(Lead);
+    let wire = Mixed::Right(Wire);
+    let weak = noise_around(0, 5, WEAK_LEAD);
+    let history = [
+        (Call::Begin, DONE),
+        (Call::Hear(&[]), DONE),
+        (Call::Lose { place: 0, n: 0 }, DONE),
+        (Call::Lose { place: 0, n: 1 }, Err(Refusal::NoSuchPlace)),
+        (Call::Find { pile: &lead, m: 0 }, Err(Refusal::EmptyText)),
+        (
+            Call::Find {
+                pile: &lead,
+                m: 241,
+            },
+            Err(Refusal::TextTooLong),
+        ),
+        (
+            Call::Find { pile: &lead, m: 1 },
+            Err(Refusal::BurstNotHeard),
+        ),
+        (
+            Call::Find { pile: &wire, m: 1 },
+            Err(Refusal::BurstNotHeard),
+        ),
+        (Call::Hear(&LEAD), DONE),
+        (Call::Hear(&[1, -128, 2]), Err(Refusal::ValueOutOfRange)),
+        (Call::Hear(&[0; 48]), DONE),
+        (Call::Find { pile: &lead, m: 1 }, found(0, 1016)),
+        (Call::Find { pile: &wire, m: 1 }, Err(Refusal::NoMarker)),
+        (Call::Hear(&[0; 9]), Err(Refusal::CapacityExceeded)),
+        (Call::Hear(&LEAD), DONE),
+        (Call::Find { pile: &lead, m: 1 }, found(0, 1016)),
+        (Call::Lose { place: 0, n: 4 }, DONE),
+        (Call::Find { pile: &lead, m: 1 }, Err(Refusal::PoorFit)),
+        (Call::Lose { place: 60, n: 4 }, DONE),
+        (Call::Lose { place: 60, n: 5 }, Err(Refusal::NoSuchPlace)),
+        (Call::Lose { place: 64, n: 0 }, DONE),
+        (Call::Lose { place: 65, n: 0 }, Err(Refusal::NoSuchPlace)),
+        (Call::Begin, DONE),
+        (
+            Call::Find { pile: &lead, m: 1 },
+            Err(Refusal::BurstNotHeard),
+        ),
+        (Call::Hear(&weak[0..64]), DONE),
+        (Call::Find { pile: &lead, m: 1 }, found(5, 512)),
+        (Call::Find { pile: &wire, m: 1 }, Err(Refusal::NoMarker)),
+        (Call::Lose { place: 5, n: 1 }, DONE),
+        (Call::Find { pile: &lead, m: 1 }, Err(Refusal::PoorFit)),
+        (Call::Hear(&[0; 9]), Err(Refusal::CapacityExceeded)),
+        (Call::Hear(&[1, -128, 2]), Err(Refusal::ValueOutOfRange)),
+        (Call::Begin, DONE),
     ];
-    let mut answers = [Answer::Done; 32];
-    played(
-        &Either::Left(Lead),
-        &Either::Right(Wire),
-        &[],
-        &[0i8; 9],
-        &[0i8; 48],
-        &[1i8, -128, 2],
-        &LEAD,
-        &noise_around(0, 5, WEAK_LEAD)[0..64],
-        &mut answers,
-    )?;
-    assert_eq!(rt; answers, expected);
+    let mut memory = [7; 64];
+    let mut answers = [DONE; 32];
+    play(&mut memory, &history.map(|(call, _)| call), &mut answers)?;
+    assert_eq!(rt; answers, history.map(|(_, answer)| answer));
     Ok(())
 }

@@ -1,18 +1,19 @@
-use Rattle.std.proofs.Common.{◌+◌, ◌<◌, ◌≤◌, sym, refl, arith}
-use Rattle.receiver.proofs.Followed.{stays, erased_follows, lose_refused, lose_accepted}
+use Rattle.std.proofs.Common.{◌≡◌, Ok, replicate, pos, refl, ap, arith, rules}
+use Rattle.std.proofs.lemmas.List.{places}
+use Rattle.std.proofs.lemmas.Slice.{overwrites}
+use Rattle.std.proofs.lemmas.Grind.{common_steps}
+use Rattle.receiver.specs.State.{loses, lose_answer}
+use Rattle.receiver.specs.Held.{held}
+use Rattle.receiver.proofs.Followed.{settled, take_erased}
 use Rattle.receiver.proofs.memory.Receiver.lose.Goals as goal
 
-pub returns-then-place-self : goal.returns-then-place-self
-returns-then-place-self c =
-    let past : c.args.self.now.count < c.args.place + c.args.n = elim c.then-place-self.branch [ goal.then-place-self-via-then-place-self w ↦ omega (arith, w.if-place-self.true) | goal.then-place-self-via-else-place-self+then-n-self w ↦ omega (arith, w.if-n-self.true, w.if-place-self.false) ] in
-    let refused = lose_refused c.args.self.now c.args.place c.args.n past in
-    record { answer = sym refused; after = stays c.args.self.now _ (rw refused refl) }
-
-pub returns : goal.returns
-returns c =
-    let within : c.args.place + c.args.n ≤ c.args.self.now.count = omega arith in
-    let accepted = lose_accepted c.args.self.now c.args.place c.args.n within in
-    record {
-      answer = sym accepted;
-      after = erased_follows c.args.self.now c.erase.new.self c.args.place c.args.n within c.erase.ensures.memory c.erase.ensures.count c.erase.ensures.start c.erase.ensures.same accepted;
-    }
+pub returns-clause-after : goal.returns-clause-after
+returns-clause-after c =
+    let r = c.args.self.now in
+    let accepted : lose_answer (held r) c.args.place c.args.n ≡ Ok tt = grind (arith, common_steps) in
+    let zeroed : c.fill.new.self ≡ replicate c.args.n (pos 0) = search rules in
+    settled r _ (loses c.args.place c.args.n)
+    (rw accepted (ap (λ v. record { standing = v; start = r.start }) (rw zeroed (search (rules, take_erased)))))
+    (search (rules, places))
+    (search (rules, overwrites))
+    refl
