@@ -1,5 +1,4 @@
 -- The octets of a character: what they are for each range of numbers, and which ranges they lie in.
--- Assumes nothing.
 use Rattle.std.proofs.Common.{◌≡◌, ℕ, suc, ◌+◌, ◌-◌, ◌*◌, ◌/◌, ◌%◌, ◌^◌, ◌<◌, ◌≤◌, true, ◌&&◌, eqb, ◌⊎◌, List, [], ◌∷◌, ◌++◌, length, get_or, drop, fold, bit_and, bit_or, sym, refl, ap, ◌∙◌, subst, inl, inr, ⊎_elim, suc-le-suc, le_trans, arith, lit≤}
 use lib.Utf8.{scalar, encode, next, scalar_cases, low_scalar}
 use Rattle.std.proofs.lemmas.Bool.{lt-ltb, le-ltb, le-leb, cond-true, cond-false, cond_both, eqb-true, cases_lt}
@@ -148,9 +147,6 @@ begun xs p c e h = subst (λ q. xs ≡ q ++ drop (length q) xs) (sym e) h
 high : (c : ℕ) → 57344 ≤ c → c < 1114112 → scalar c ≡ true
 high c l u = cond-false _ _ _ (le-ltb c 55296 (omega arith)) ∙ (λ k. le-leb 57344 c l k && lt-ltb c 1114112 u k)
 
-pub of_one : (x : ℕ) (xs : List ℕ) → x < 128 → Begins (x ∷ xs) x
-of_one x xs h = (low_scalar x (omega arith), begun (x ∷ xs) (x ∷ []) x (encode_ascii x h) refl)
-
 pub of_two : (x : ℕ) (xs : List ℕ) (c : ℕ) → 0 < length xs → 194 ≤ x → x < 224 → Second x (get_or xs 0 0) → c ≡ with_behind (bit_and x 31) (get_or xs 0 0 ∷ []) → Begins (x ∷ xs) c
 of_two x [] c l a b t e = absurd (omega arith)
 of_two x (y ∷ xs) c l a b t e =
@@ -203,9 +199,11 @@ shifted_more : (n m octet : ℕ) → (m < 2 ^ 32 → n ≡ m) → m * 64 + octet
 shifted_more n m octet e l =
     ap (λ k. shifted k octet) (e (omega arith)) ∙ ap (bit_or (m * 64 % 2 ^ 32)) (and_mask octet 6) ∙ or_after_shift m 64 (2 ^ 32) (octet % 64) refl (omega arith) (omega arith)
 
-pub shifted_behind : (first : ℕ) (octets : List ℕ) → scalar (with_behind first octets) ≡ true → fold shifted first octets ≡ with_behind first octets
-shifted_behind first octets s =
-    fold_along shifted (λ n octet. n * 64 + octet % 64) (λ n m. m < 2 ^ 32 → n ≡ m) shifted_more first first octets (λ _. refl) (below (scalar_cases _ s))
+-- where it comes to the number of a character, no bit is lost
+pub shifted_behind : (first : ℕ) (octets : List ℕ) (number : ℕ) → scalar (with_behind first octets) ≡ true → number ≡ fold shifted first octets → (scalar number ≡ true) × (number ≡ with_behind first octets)
+shifted_behind first octets number s h =
+    let e : number ≡ with_behind first octets = h ∙ fold_along shifted (λ n octet. n * 64 + octet % 64) (λ n m. m < 2 ^ 32 → n ≡ m) shifted_more first first octets (λ _. refl) (below (scalar_cases _ s)) in
+    (ap scalar e ∙ s, e)
   where
     below : {n : ℕ} → (n < 55296) ⊎ ((57344 ≤ n) × (n < 1114112)) → n < 2 ^ 32
     below (inl h) = omega arith

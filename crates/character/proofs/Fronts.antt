@@ -1,5 +1,4 @@
 -- The item at the front of octets: what was found there is what stands there by the definition.
--- Assumes nothing.
 use Rattle.std.proofs.Common.{◌≡◌, ℕ, ◌+◌, ◌/◌, ◌<◌, ◌≤◌, Bool, true, false, cond, eqb, ltb, List, [], ◌∷◌, ◌++◌, length, get_or, drop, Some, None, IsUtf8, Option, MatchOption, sym, refl, ap, ◌∙◌, subst, ⊎_elim, append-nil, arith, lit<, length-append}
 use lib.Utf8.{scalar, encode, next}
 use Rattle.std.proofs.lemmas.Bool.{lt-ltb, le-ltb, cond-true, cond-false, and_from, and_parts, eq-eqb, eqb-true, eqb-false, ne_eqb, ltb-true, ltb-false, or_from, cond_both, cases_Bool, false≢true}

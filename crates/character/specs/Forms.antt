@@ -1,5 +1,4 @@
 -- What the private steps promise each other.
--- Assumes nothing.
 use Rattle.std.specs.Prelude.{◌≡◌, ℕ, ◌+◌, ◌*◌, ◌%◌, ◌^◌, ◌<◌, ◌≤◌, true, cond, List, ◌++◌, length, drop, fold, IfSome, Option, MatchOption, ◌==◌}
 use Rattle.std.proofs.Math.Utf8.{scalar, encode}
 use Rattle.std.specs.Str.{StartsWithNoChar}

@@ -1,5 +1,4 @@
 -- The states of a line, and what each call makes of them.
--- Assumes nothing.
 use Rattle.std.specs.Prelude.{ℕ, ◌+◌, Bool, true, false, cond, not, ◌||◌, Some, None, Option, nat_lt}
 use Rattle.negotiation.specs.declared.State.{State}
 use Rattle.negotiation.specs.declared.State.TheVariants.{New, Asking, Known, Clear}
