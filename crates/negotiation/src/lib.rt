@@ -1,7 +1,7 @@
 // Whether the far end can hear us: the states of a line, and the acknowledgements that it owes.
 #![tactic(auto)]
 
-ghost use Rattle.std.specs.Prelude.{◌≡◌, true};
+ghost use Rattle.std.specs.Prelude.{◌≡◌};
 ghost use Rattle.character.specs.Reader.{holds_enquiry};
 ghost use Rattle.negotiation.specs.declared.State.TheVariants.{New as NewLine, Asking as AskingLine, Known as KnownLine};
 ghost use Rattle.negotiation.specs.declared.Wanted.TheVariants.{EnquiryBurst};
