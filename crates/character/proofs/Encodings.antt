@@ -1,11 +1,13 @@
 -- The octets of a character: what they are for each range of numbers, and which ranges they lie in.
--- Assumes nothing.
-use Rattle.std.proofs.Common.{◌≡◌, ℕ, suc, ◌+◌, ◌-◌, ◌*◌, ◌/◌, ◌<◌, ◌≤◌, true, ◌&&◌, eqb, ◌⊎◌, List, [], ◌∷◌, ◌++◌, length, get_or, drop, sym, refl, ◌∙◌, subst, inl, inr, ⊎_elim, suc-le-suc, le_trans, arith, lit≤}
+use Rattle.std.proofs.Common.{◌≡◌, ℕ, suc, ◌+◌, ◌-◌, ◌*◌, ◌/◌, ◌%◌, ◌^◌, ◌<◌, ◌≤◌, true, ◌&&◌, eqb, ◌⊎◌, List, [], ◌∷◌, ◌++◌, length, get_or, drop, fold, bit_and, bit_or, sym, refl, ap, ◌∙◌, subst, inl, inr, ⊎_elim, suc-le-suc, le_trans, arith, lit≤}
 use lib.Utf8.{scalar, encode, next, scalar_cases, low_scalar}
 use Rattle.std.proofs.lemmas.Bool.{lt-ltb, le-ltb, le-leb, cond-true, cond-false, cond_both, eqb-true, cases_lt}
+use Rattle.std.proofs.lemmas.Grind.{or_after_shift}
+use Rattle.std.proofs.lemmas.List.Folds.{fold_along}
+use Rattle.std.proofs.lemmas.Nat.{and_mask}
 use Rattle.std.proofs.lemmas.Str.{encode_ascii}
 use Rattle.std.specs.Str.{StartsWithNoChar}
-use Rattle.character.specs.Forms.{Tail, Second, least_second, greatest_second}
+use Rattle.character.specs.Forms.{Tail, Second, least_second, greatest_second, with_behind}
 
 pub two : (c : ℕ) → 128 ≤ c → c < 2048 → encode c ≡ (192 + c / 64) ∷ next c ∷ []
 unfolding encode
@@ -145,27 +147,23 @@ begun xs p c e h = subst (λ q. xs ≡ q ++ drop (length q) xs) (sym e) h
 high : (c : ℕ) → 57344 ≤ c → c < 1114112 → scalar c ≡ true
 high c l u = cond-false _ _ _ (le-ltb c 55296 (omega arith)) ∙ (λ k. le-leb 57344 c l k && lt-ltb c 1114112 u k)
 
-pub of_one : (xs : List ℕ) → 0 < length xs → get_or xs 0 0 < 128 → Begins xs (get_or xs 0 0)
-of_one [] l h = absurd (omega arith)
-of_one (x ∷ xs) l h = (low_scalar x (omega arith), begun (x ∷ xs) (x ∷ []) x (encode_ascii x h) refl)
-
-pub of_two : (xs : List ℕ) → 1 < length xs → 194 ≤ get_or xs 0 0 → get_or xs 0 0 < 224 → Tail (get_or xs 1 0) → Begins xs ((get_or xs 0 0 - 192) * 64 + (get_or xs 1 0 - 128))
-of_two [] l a b t = absurd (omega arith)
-of_two (x ∷ []) l a b t = absurd (omega arith)
-of_two (x ∷ y ∷ xs) l a b t =
-    let c : ℕ = (x - 192) * 64 + (y - 128) in
+pub of_two : (x : ℕ) (xs : List ℕ) (c : ℕ) → 0 < length xs → 194 ≤ x → x < 224 → Second x (get_or xs 0 0) → c ≡ with_behind (bit_and x 31) (get_or xs 0 0 ∷ []) → Begins (x ∷ xs) c
+of_two x [] c l a b t e = absurd (omega arith)
+of_two x (y ∷ xs) c l a b t e =
+    let u : Tail y = (behind x y t).tail in
+    let n : c ≡ (x - 192) * 64 + (y - 128) = omega (arith, e, and_mask x 5) in
     let p : x ≡ 192 + c / 64 = omega arith in
     let q : y ≡ next c = omega arith in
     (low_scalar c (omega arith), begun (x ∷ y ∷ xs) (x ∷ y ∷ []) c (two c (omega arith) (omega arith) ∙ sym (λ k. p k ∷ q k ∷ [])) refl)
 
-pub of_three : (xs : List ℕ) → 2 < length xs → 224 ≤ get_or xs 0 0 → get_or xs 0 0 < 240 → Second (get_or xs 0 0) (get_or xs 1 0) → Tail (get_or xs 2 0)
-    → Begins xs ((get_or xs 0 0 - 224) * 4096 + (get_or xs 1 0 - 128) * 64 + (get_or xs 2 0 - 128))
-of_three [] l a b t u = absurd (omega arith)
-of_three (x ∷ []) l a b t u = absurd (omega arith)
-of_three (x ∷ y ∷ []) l a b t u = absurd (omega arith)
-of_three (x ∷ y ∷ z ∷ xs) l a b t u =
+pub of_three : (x : ℕ) (xs : List ℕ) (c : ℕ) → 1 < length xs → 224 ≤ x → x < 240 → Second x (get_or xs 0 0) → Tail (get_or xs 1 0)
+    → c ≡ with_behind (bit_and x 15) (get_or xs 0 0 ∷ get_or xs 1 0 ∷ []) → Begins (x ∷ xs) c
+of_three x [] c l a b t u e = absurd (omega arith)
+of_three x (y ∷ []) c l a b t u e = absurd (omega arith)
+of_three x (y ∷ z ∷ xs) c l a b t u e =
     let i : Behind x y = behind x y t in
-    let c : ℕ = (x - 224) * 4096 + (y - 128) * 64 + (z - 128) in
+    let v : Tail y = i.tail in
+    let n : c ≡ (x - 224) * 4096 + (y - 128) * 64 + (z - 128) = omega (arith, e, and_mask x 4) in
     let p : x ≡ 224 + c / 4096 = omega arith in
     let h : c / 64 ≡ (x - 224) * 64 + (y - 128) = omega arith in
     let q : y ≡ next (c / 64) = subst (λ (m : ℕ). y ≡ next m) (sym h) (omega arith) in
@@ -174,24 +172,39 @@ of_three (x ∷ y ∷ z ∷ xs) l a b t u =
     let sc : scalar c ≡ true = ⊎_elim (λ k. low_scalar c k) (λ k. high c (⊎_elim (λ (v : x < 238). let e : x ≡ 237 = omega arith in absurd (omega (arith, i.surrogate e))) (λ v. omega arith) (cases_lt x 238)) (omega arith)) (cases_lt c 55296) in
     (sc, begun (x ∷ y ∷ z ∷ xs) (x ∷ y ∷ z ∷ []) c (three c least (omega arith) ∙ sym (λ k. p k ∷ q k ∷ r k ∷ [])) refl)
 
-pub of_four : (xs : List ℕ) → 3 < length xs → 240 ≤ get_or xs 0 0 → get_or xs 0 0 < 245 → Second (get_or xs 0 0) (get_or xs 1 0) → Tail (get_or xs 2 0) → Tail (get_or xs 3 0)
-    → Begins xs (((get_or xs 0 0 - 240) * 4096 + (get_or xs 1 0 - 128) * 64 + (get_or xs 2 0 - 128)) * 64 + (get_or xs 3 0 - 128))
-of_four [] l a b t u v = absurd (omega arith)
-of_four (x ∷ []) l a b t u v = absurd (omega arith)
-of_four (x ∷ y ∷ []) l a b t u v = absurd (omega arith)
-of_four (x ∷ y ∷ z ∷ []) l a b t u v = absurd (omega arith)
-of_four (x ∷ y ∷ z ∷ o ∷ xs) l a b t u v =
+pub of_four : (x : ℕ) (xs : List ℕ) (c : ℕ) → 2 < length xs → 240 ≤ x → x < 245 → Second x (get_or xs 0 0) → Tail (get_or xs 1 0) → Tail (get_or xs 2 0)
+    → c ≡ with_behind (bit_and x 7) (get_or xs 0 0 ∷ get_or xs 1 0 ∷ get_or xs 2 0 ∷ []) → Begins (x ∷ xs) c
+of_four x [] c l a b t u v e = absurd (omega arith)
+of_four x (y ∷ []) c l a b t u v e = absurd (omega arith)
+of_four x (y ∷ z ∷ []) c l a b t u v e = absurd (omega arith)
+of_four x (y ∷ z ∷ o ∷ xs) c l a b t u v e =
     let f : Behind x y = behind x y t in
+    let g : Tail y = f.tail in
     let d : ℕ = (x - 240) * 4096 + (y - 128) * 64 + (z - 128) in
-    let c : ℕ = d * 64 + (o - 128) in
-    let e : c / 64 ≡ d = omega arith in
+    let n : c ≡ d * 64 + (o - 128) = omega (arith, e, and_mask x 3) in
+    let h : c / 64 ≡ d = omega arith in
     let p : x ≡ 240 + c / 262144 = omega arith in
     let q : y ≡ next (c / 4096) = omega arith in
-    let r : z ≡ next (c / 64) = subst (λ (m : ℕ). z ≡ next m) (sym e) (omega arith) in
+    let r : z ≡ next (c / 64) = subst (λ (m : ℕ). z ≡ next m) (sym h) (omega arith) in
     let i : o ≡ next c = omega arith in
     let least : 65536 ≤ c = ⊎_elim (λ (k : x < 241). let e : x ≡ 240 = omega arith in omega (arith, f.shortest4 e)) (λ k. omega arith) (cases_lt x 241) in
     let most : c < 1114112 = ⊎_elim (λ k. omega arith) (λ (k : 244 ≤ x). let e : x ≡ 244 = omega arith in omega (arith, f.past e)) (cases_lt x 244) in
     (high c (omega arith) most, begun (x ∷ y ∷ z ∷ o ∷ xs) (x ∷ y ∷ z ∷ o ∷ []) c (four c least ∙ sym (λ k. p k ∷ q k ∷ r k ∷ i k ∷ [])) refl)
 
-pub two_tail : (x y : ℕ) → Second x y → Tail y
-two_tail x y h = (behind x y h).tail
+-- ---- six bits more, as the program adds them
+abbrev pub shifted : ℕ → ℕ → ℕ
+shifted number octet = bit_or (number * 64 % 2 ^ 32) (bit_and octet 63)
+
+shifted_more : (n m octet : ℕ) → (m < 2 ^ 32 → n ≡ m) → m * 64 + octet % 64 < 2 ^ 32 → shifted n octet ≡ m * 64 + octet % 64
+shifted_more n m octet e l =
+    ap (λ k. shifted k octet) (e (omega arith)) ∙ ap (bit_or (m * 64 % 2 ^ 32)) (and_mask octet 6) ∙ or_after_shift m 64 (2 ^ 32) (octet % 64) refl (omega arith) (omega arith)
+
+-- where it comes to the number of a character, no bit is lost
+pub shifted_behind : (first : ℕ) (octets : List ℕ) (number : ℕ) → scalar (with_behind first octets) ≡ true → number ≡ fold shifted first octets → (scalar number ≡ true) × (number ≡ with_behind first octets)
+shifted_behind first octets number s h =
+    let e : number ≡ with_behind first octets = h ∙ fold_along shifted (λ n octet. n * 64 + octet % 64) (λ n m. m < 2 ^ 32 → n ≡ m) shifted_more first first octets (λ _. refl) (below (scalar_cases _ s)) in
+    (ap scalar e ∙ s, e)
+  where
+    below : {n : ℕ} → (n < 55296) ⊎ ((57344 ≤ n) × (n < 1114112)) → n < 2 ^ 32
+    below (inl h) = omega arith
+    below (inr h) = omega arith

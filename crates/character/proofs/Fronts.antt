@@ -1,6 +1,5 @@
 -- The item at the front of octets: what was found there is what stands there by the definition.
--- Assumes nothing.
-use Rattle.std.proofs.Common.{◌≡◌, ℕ, ◌+◌, ◌/◌, ◌<◌, ◌≤◌, Bool, true, false, cond, eqb, ltb, List, [], ◌∷◌, ◌++◌, length, get_or, drop, Some, None, IsUtf8, Option, sym, refl, ap, ◌∙◌, subst, ⊎_elim, append-nil, add-zero, arith, lit<, length-append, length-drop, get_or-drop}
+use Rattle.std.proofs.Common.{◌≡◌, ℕ, ◌+◌, ◌/◌, ◌<◌, ◌≤◌, Bool, true, false, cond, eqb, ltb, List, [], ◌∷◌, ◌++◌, length, get_or, drop, Some, None, IsUtf8, Option, MatchOption, sym, refl, ap, ◌∙◌, subst, ⊎_elim, append-nil, arith, lit<, length-append}
 use lib.Utf8.{scalar, encode, next}
 use Rattle.std.proofs.lemmas.Bool.{lt-ltb, le-ltb, cond-true, cond-false, and_from, and_parts, eq-eqb, eqb-true, eqb-false, ne_eqb, ltb-true, ltb-false, or_from, cond_both, cases_Bool, false≢true}
 use Rattle.std.proofs.iter.FirstChar.{no_text}
@@ -9,6 +8,7 @@ use Rattle.std.specs.Str.{StartsWithNoChar}
 use Rattle.character.specs.declared.Placed.{Placed}
 use Rattle.character.specs.declared.Item.{Item}
 use Rattle.character.specs.declared.Item.TheVariants.{Enquiry, Idle, Character, Broken}
+use Rattle.character.specs.Forms.{Found}
 use Rattle.character.specs.Reader.{starts, spelled, character_stands, front_item, standing, octets_of, is_broken, is_enquiry, holds_enquiry}
 use Rattle.character.proofs.Encodings.{Form, form1, form2, form3, form4, form, Begins}
 
@@ -70,13 +70,18 @@ none_stands xs f c r s e =
         and_from _ _ (ap scalar d ∙ s) (ap (λ n. starts (encode n) (encode c ++ r)) d ∙ starts_own (encode c) r)
 
 -- ---- the item
-pub front_character : (xs : List ℕ) (c : ℕ) → (get_or xs 0 0 ≡ 5 → ⊥) → (get_or xs 0 0 ≡ 22 → ⊥) → Begins xs c → Character c ≡ front_item (get_or xs 0 0) xs
+front_character : (xs : List ℕ) (c : ℕ) → (get_or xs 0 0 ≡ 5 → ⊥) → (get_or xs 0 0 ≡ 22 → ⊥) → Begins xs c → Character c ≡ front_item (get_or xs 0 0) xs
 front_character xs c n m h = sym (
     cond-false _ _ _ (ne_eqb _ 5 n) ∙ cond-false _ _ _ (ne_eqb _ 22 m) ∙ cond-true _ _ _ (stands_begun xs c h) ∙ ap Character (spelled_begun xs c h))
 
-pub front_broken : (xs : List ℕ) → (get_or xs 0 0 ≡ 5 → ⊥) → (get_or xs 0 0 ≡ 22 → ⊥) → StartsWithNoChar xs → Broken (get_or xs 0 0) ≡ front_item (get_or xs 0 0) xs
+front_broken : (xs : List ℕ) → (get_or xs 0 0 ≡ 5 → ⊥) → (get_or xs 0 0 ≡ 22 → ⊥) → StartsWithNoChar xs → Broken (get_or xs 0 0) ≡ front_item (get_or xs 0 0) xs
 front_broken xs n m h = sym (
     cond-false _ _ _ (ne_eqb _ 5 n) ∙ cond-false _ _ _ (ne_eqb _ 22 m) ∙ cond-false _ _ _ (stands_none xs h))
+
+-- the item by what was found, or by the first octet where nothing was
+pub front_found : (x : ℕ) (xs : List ℕ) (r : Option ℕ) (i : Item) → (x ≡ 5 → ⊥) → (x ≡ 22 → ⊥) → Found (x ∷ xs) r → MatchOption r (i ≡ Broken x) (λ c. i ≡ Character c) → i ≡ front_item x (x ∷ xs)
+front_found x xs None i n m f e = e ∙ front_broken (x ∷ xs) n m f
+front_found x xs (Some c) i n m f e = e ∙ front_character (x ∷ xs) c n m f
 
 -- what holds of each item that can stand at the front, by the reason for which it stands there
 module _ (xs : List ℕ) (P : Item → Type 0) where
@@ -143,18 +148,11 @@ front_enquiry xs =
     (λ n h. no_enquiry (spelled xs) (get_or xs 0 0) _ n (ap (λ p. get_or p 0 0) (sym h.1)) (form (spelled xs) h.0))
     (λ n _. or_from _ _ (ne_eqb _ 5 n) refl)
 
--- ---- one step of the reader, which takes the part of the text from its place on
-pub stepped : (text part : List ℕ) (place : ℕ) (i : Item) → part ≡ drop place text → place < length text → i ≡ front_item (get_or part 0 0) part
-    → (Some (record { place = place; item = i }) ≡ standing text place) × (place + length (octets_of i) ≤ length text) × (0 < length (octets_of i))
-stepped text part place i p l e =
-    let here : 0 < length part = omega (arith, ap length p, length-drop place text) in
-    let first : get_or part 0 0 ≡ get_or text place 0 = ap (λ xs. get_or xs 0 0) p ∙ get_or-drop place text 0 0 ∙ ap (λ k. get_or text k 0) (add-zero place) in
-    let f : i ≡ front_item (get_or text place 0) (drop place text) = e ∙ (λ k. front_item (first k) (p k)) in
-    let s : part ≡ octets_of i ++ drop (length (octets_of i)) part = subst (λ j. part ≡ octets_of j ++ drop (length (octets_of j)) part) (sym e) (front_split part here) in (
-      (λ k. Some (record { place = place; item = f k })) ∙ sym (cond-true _ _ _ (lt-ltb place (length text) l)),
-      omega (arith, ap length p, length-drop place text, ap length s, length-append (octets_of i) (drop (length (octets_of i)) part)),
-      octets_some i,
-    )
+-- the item at the front takes no more than the octets there
+pub front_length : (x : ℕ) (xs : List ℕ) → length (octets_of (front_item x (x ∷ xs))) ≤ length (x ∷ xs)
+front_length x xs =
+    let i : Item = front_item x (x ∷ xs) in
+    omega (arith, ap length (front_split (x ∷ xs) (omega arith)), length-append (octets_of i) (drop (length (octets_of i)) (x ∷ xs)))
 
 -- what stands at a place stands below the end, and is the item at the front of what follows
 abbrev Here : List ℕ → ℕ → Placed

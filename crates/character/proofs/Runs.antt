@@ -1,7 +1,7 @@
 -- A run of the reader: what it gave, in order, is the reading of the text that it passed.
--- Assumes nothing.
 use Rattle.std.proofs.Common.{◌≡◌, ℕ, zero, suc, ◌+◌, ◌^◌, ◌<◌, ◌≤◌, Bool, true, false, cond, ◌||◌, eqb, ltb, List, [], ◌∷◌, ◌++◌, length, get_or, take, drop, Some, None, IsUtf8, sym, refl, ap, ◌∙◌, subst, append_assoc, append-nil, add-zero, zero-add, arith, length-append, length-drop, get_or-drop, drop-drop}
 use Rattle.std.proofs.lemmas.Bool.{lt-ltb, le-ltb, cond-false}
+use Rattle.std.proofs.lemmas.List.{nil_from_length}
 use Rattle.std.specs.Iterator.{Yields, Drains}
 use Rattle.std.specs.Str.{StartsWithNoChar}
 use Rattle.character.specs.declared.Item.{Item}
@@ -136,7 +136,7 @@ module _ (text : List ℕ) where
       let r = ran xs s t e y in
       let end : length text ≤ t.place = standing_none text t.place (n.item ∙ ap (λ ts. standing ts t.place) r.1) in
       let whole : drop s.place text ≡ text = ap (λ k. drop k text) z in
-      let empty : drop t.place text ≡ [] = nil_of (drop t.place text) (omega (arith, end, length-drop t.place text)) in
+      let empty : drop t.place text ≡ [] = nil_from_length (drop t.place text) (omega (arith, end, length-drop t.place text)) in
       let all : joined xs ≡ text = sym (sym whole ∙ r.0.passed ∙ ap (λ ys. joined xs ++ ys) empty ∙ append-nil (joined xs)) in
       record {
         octets = all;
@@ -146,10 +146,6 @@ module _ (text : List ℕ) where
         unbroken = λ v. r.0.unbroken (subst IsUtf8 (sym whole) v);
         enquiries = ap holds_enquiry (sym all) ∙ r.0.enquiries;
       }
-    where
-      nil_of : (ys : List ℕ) → length ys ≤ 0 → ys ≡ []
-      nil_of [] h = refl
-      nil_of (y ∷ ys) h = absurd (omega arith)
 
   -- where one item more comes, each count has room for it
   pub room : (xs : List Placed) (s t u : Characters) (x : Placed) → s.text.now ≡ text → Yields Next s xs t → Next t (Some x) u → length text < 2 ^ 64 → Room (tally_of xs)

@@ -1,6 +1,5 @@
 -- What the private steps promise each other.
--- Assumes nothing.
-use Rattle.std.specs.Prelude.{◌≡◌, ℕ, ◌+◌, ◌^◌, ◌<◌, ◌≤◌, true, cond, List, ◌++◌, length, drop, IfSome, Option, MatchOption, ◌==◌}
+use Rattle.std.specs.Prelude.{◌≡◌, ℕ, ◌+◌, ◌*◌, ◌%◌, ◌^◌, ◌<◌, ◌≤◌, true, cond, List, ◌++◌, length, drop, fold, IfSome, Option, MatchOption, ◌==◌}
 use Rattle.std.proofs.Math.Utf8.{scalar, encode}
 use Rattle.std.specs.Str.{StartsWithNoChar}
 use Rattle.character.specs.declared.Item.{Item}
@@ -23,6 +22,10 @@ greatest_second first = cond (first == 0xED) 0x9F (cond (first == 0xF4) 0x8F 0xB
 -- an octet that may stand second, behind a first
 abbrev pub Second : ℕ → ℕ → Type 0
 Second first b = (least_second first ≤ b) × (b ≤ greatest_second first)
+
+-- a number whose highest bits are given, and whose lower ones are the lowest six of each octet behind, in order
+abbrev pub with_behind : ℕ → List ℕ → ℕ
+with_behind high behind = fold (λ number octet. number * 64 + octet % 64) high behind
 
 -- the octets begin with the encoding of the character that was found, or of none where none was
 abbrev pub Found : List ℕ → Option ℕ → Type 0

@@ -1,5 +1,4 @@
 -- What stands at a place of a text's octets, and the reading of a whole text.
--- Assumes nothing.
 use Rattle.std.specs.Prelude.{◌≡◌, ℕ, ◌+◌, ◌*◌, ◌%◌, ◌<◌, Bool, true, false, cond, ◌&&◌, ◌||◌, List, [], ◌∷◌, ◌++◌, length, get_or, take, drop, Some, None, IsUtf8, Option, ◌==◌, nat_lt, slice_index, slice_index_or}
 use Rattle.std.proofs.Math.Utf8.{scalar, encode}
 use Rattle.std.specs.Str.{StartsWithNoChar}

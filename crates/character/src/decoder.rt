@@ -1,13 +1,13 @@
 // One character of UTF-8, by the ranges that its octets lie in.
-ghost use Rattle.std.specs.Prelude.{◌≡◌, ◌<◌, ◌≤◌, true, length, Decides, slice_index};
+ghost use Rattle.std.specs.Prelude.{◌≡◌, ◌∷◌, true, Decides};
 ghost use Rattle.std.proofs.Math.Utf8.{scalar};
-ghost use Rattle.character.specs.Forms.{Tail, Second, least_second, greatest_second, Found};
+ghost use Rattle.character.specs.Forms.{Tail, Second, least_second, greatest_second, with_behind, Found};
 
 // Whether an octet may stand third or fourth.
 fn is_tail(octet: u8) -> bool
     ensures { Decides result (Tail octet) }
 {
-    octet >= 0x80 && octet < 0xC0
+    matches!(octet, 0x80..=0xBF)
 }
 
 // The least octet that may stand second.
@@ -36,91 +36,36 @@ fn greatest_second(first: u8) -> u8
 fn may_follow(first: u8, second: u8) -> bool
     ensures { Decides result (Second first second) }
 {
-    least_second(first) <= second && second <= greatest_second(first)
+    (least_second(first)..=greatest_second(first)).contains(&second)
 }
 
-// The character of a scalar value.
-fn scalar_value(number: u32) -> char
-    requires { scalar number ≡ true }
-    ensures { result ≡ number }
+// The character whose highest bits are given, and whose lower ones are the lowest six of each octet behind.
+fn spelled(high: u8, behind: &[u8]) -> char
+    requires { scalar (with_behind high behind.now) ≡ true }
+    ensures { result ≡ with_behind high behind.now }
 {
-    match char::from_u32(number) {
-        Some(c) => c,
-        None => unreachable(),
-    }
+    let number = behind.iter().fold(u32::from(high), |number, octet| {
+        number << 6 | u32::from(octet & 0x3F)
+    });
+    char::from_u32(number).unwrap()
 }
 
-// The character of two octets.
-fn two(octets: &[u8]) -> Option<char>
-    requires { (0 < length octets.now) × (0xC2 ≤ slice_index octets.now 0) × (slice_index octets.now 0 < 0xE0) }
-    ensures { Found octets.now result }
+// The character at the front of octets, by the first of them and those behind it, where one stands there.
+pub fn character(first: u8, behind: &[u8]) -> Option<char>
+    ensures { Found (first ∷ behind.now) result }
 {
-    if octets.len() < 2 {
-        return None;
-    }
-    if !is_tail(octets[1]) {
-        return None;
-    }
-    let number = (octets[0] as u32 - 0xC0) * 64 + (octets[1] as u32 - 0x80);
-    Some(scalar_value(number))
-}
-
-// The character of three octets.
-fn three(octets: &[u8]) -> Option<char>
-    requires { (0 < length octets.now) × (0xE0 ≤ slice_index octets.now 0) × (slice_index octets.now 0 < 0xF0) }
-    ensures { Found octets.now result }
-{
-    if octets.len() < 3 {
-        return None;
-    }
-    let first = octets[0];
-    let second = octets[1];
-    let third = octets[2];
-    if !may_follow(first, second) {
-        return None;
-    }
-    if !is_tail(third) {
-        return None;
-    }
-    let number = (first as u32 - 0xE0) * 4096 + (second as u32 - 0x80) * 64 + (third as u32 - 0x80);
-    Some(scalar_value(number))
-}
-
-// The character of four octets.
-fn four(octets: &[u8]) -> Option<char>
-    requires { (0 < length octets.now) × (0xF0 ≤ slice_index octets.now 0) × (slice_index octets.now 0 < 0xF5) }
-    ensures { Found octets.now result }
-{
-    if octets.len() < 4 {
-        return None;
-    }
-    let first = octets[0];
-    let second = octets[1];
-    let third = octets[2];
-    let fourth = octets[3];
-    if !may_follow(first, second) {
-        return None;
-    }
-    if !is_tail(third) {
-        return None;
-    }
-    if !is_tail(fourth) {
-        return None;
-    }
-    let high = (first as u32 - 0xF0) * 4096 + (second as u32 - 0x80) * 64 + (third as u32 - 0x80);
-    Some(scalar_value(high * 64 + (fourth as u32 - 0x80)))
-}
-
-// The character at the front, where one stands there.
-pub fn character(octets: &[u8]) -> Option<char>
-    requires { 0 < length octets.now }
-    ensures { Found octets.now result }
-{
-    match octets[0] {
-        0x00..=0x7F => Some(octets[0] as char),
-        0xC2..=0xDF => two(octets),
-        0xE0..=0xEF => three(octets),
-        0xF0..=0xF4 => four(octets),
+    match (first, behind) {
+        (0x00..=0x7F, _) => Some(char::from(first)),
+        (0xC2..=0xDF, &[second, ..]) if may_follow(first, second) => {
+            Some(spelled(first & 0x1F, &[second]))
+        }
+        (0xE0..=0xEF, &[second, third, ..]) if may_follow(first, second) && is_tail(third) => {
+            Some(spelled(first & 0x0F, &[second, third]))
+        }
+        (0xF0..=0xF4, &[second, third, fourth, ..])
+            if may_follow(first, second) && is_tail(third) && is_tail(fourth) => {
+            Some(spelled(first & 0x07, &[second, third, fourth]))
+        }
         _ => None,
     }
 }

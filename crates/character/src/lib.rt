@@ -1,7 +1,7 @@
 // A text's octets as a row of items: enquiries, idles, other characters in UTF-8, and broken octets.
 #![tactic(auto)]
 
-ghost use Rattle.std.specs.Prelude.{◌≡◌, ◌-◌, ◌<◌, List, length, nat_lt, slice_index};
+ghost use Rattle.std.specs.Prelude.{◌≡◌, ◌-◌, ◌∷◌, List, length, nat_lt};
 ghost use Rattle.character.specs.Reader.{Next, OnlyReading, standing, front_item, octets_of, tally_of, holds_enquiry};
 ghost use Rattle.character.specs.Forms.{Room, Within, one_more};
 ghost use Rattle.character.specs.declared.Placed.{Placed as PlacedItem};
@@ -65,18 +65,14 @@ impl<'a> Characters<'a> {
     }
 }
 
-// The item at the front.
-fn front(octets: &[u8]) -> Item
-    requires { 0 < length octets.now }
-    ensures { result ≡ front_item (slice_index octets.now 0) octets.now }
+// The item at the front of octets, by the first of them and those behind it.
+fn front(first: u8, behind: &[u8]) -> Item
+    ensures { result ≡ front_item first (first ∷ behind.now) }
 {
-    match octets[0] {
+    match first {
         ENQUIRY => Item::Enquiry,
         IDLE => Item::Idle,
-        first => match decoder::character(octets) {
-            Some(c) => Item::Character(c),
-            None => Item::Broken(first),
-        },
+        _ => decoder::character(first, behind).map_or(Item::Broken(first), Item::Character),
     }
 }
 
@@ -85,10 +81,8 @@ fn read_at(text: &[u8], place: usize) -> Option<Placed>
     ensures value { result ≡ standing text.now place }
     ensures within { Within (length text.now) place result }
 {
-    if place >= text.len() {
-        return None;
-    }
-    let item = front(&text[place..]);
+    let (&first, behind) = text.get(place..)?.split_first()?;
+    let item = front(first, behind);
     Some(Placed { place, item })
 }
 
@@ -107,7 +101,7 @@ impl<'a> Iterator for Characters<'a> {
 }
 
 // How many items of each kind a text has.
-#[derive(Clone, Copy, PartialEq, Eq, Debug)]
+#[derive(Clone, Copy, PartialEq, Eq, Debug, Default)]
 pub struct Tally {
     pub enquiries: usize,
     pub idles: usize,
@@ -117,27 +111,15 @@ pub struct Tally {
 
 impl Tally {
     // One item more.
-    fn with(self, item: Item) -> Tally
-        requires { Room self }
-        ensures { result ≡ one_more self item }
+    fn count(&mut self, item: Item)
+        requires { Room self.old }
+        ensures { self.new ≡ one_more self.old item }
     {
         match item {
-            Item::Enquiry => Tally {
-                enquiries: self.enquiries + 1,
-                ..self
-            },
-            Item::Idle => Tally {
-                idles: self.idles + 1,
-                ..self
-            },
-            Item::Character(_) => Tally {
-                characters: self.characters + 1,
-                ..self
-            },
-            Item::Broken(_) => Tally {
-                broken: self.broken + 1,
-                ..self
-            },
+            Item::Enquiry => self.enquiries += 1,
+            Item::Idle => self.idles += 1,
+            Item::Character(_) => self.characters += 1,
+            Item::Broken(_) => self.broken += 1,
         }
     }
 
@@ -146,24 +128,19 @@ impl Tally {
         ensures items { (items : List PlacedItem) × OnlyReading text.now items × (result ≡ tally_of items) }
         ensures enquiry { holds_enquiry text.now ≡ nat_lt 0 result.enquiries }
     {
-        let mut tally = Tally {
-            enquiries: 0,
-            idles: 0,
-            characters: 0,
-            broken: 0,
-        };
+        let mut tally = Tally::default();
         for placed in Characters::new(text) {
-            tally = tally.with(placed.item);
+            tally.count(placed.item);
         }
         tally
     }
 }
 
-// Whether one of a text's items is an enquiry.
+// Whether one of a text's items is an enquiry. Its octet stands in no other item.
 pub fn holds_enquiry(text: &[u8]) -> bool
     ensures { result ≡ holds_enquiry text.now }
 {
-    Tally::of(text).enquiries > 0
+    text.contains(&ENQUIRY)
 }
 
 // Whether an octet is a control character.
@@ -177,13 +154,7 @@ fn is_control(octet: u8) -> bool
 fn plain_length(text: &[u8]) -> usize
     ensures { result ≡ length (without_controls text.now) }
 {
-    let mut length = 0;
-    for octet in text {
-        if !is_control(*octet) {
-            length += 1;
-        }
-    }
-    length
+    text.iter().filter(|octet| !is_control(**octet)).count()
 }
 
 // Copies a text without its enquiries and idles into the first places of memory, and answers how many octets stay.
@@ -191,15 +162,13 @@ pub fn remove_controls(text: &[u8], memory: &mut [u8]) -> Result<usize, Refusal>
     ensures answer { result ≡ removal_answer text.now (length memory.old) }
     ensures memory { memory.new ≡ after result (without_controls text.now) memory.old }
 {
-    if plain_length(text) > memory.len() {
+    let length = plain_length(text);
+    if length > memory.len() {
         return Err(Refusal::MemoryTooShort);
     }
-    let mut length = 0;
-    for &octet in text {
-        if !is_control(octet) {
-            memory[length] = octet;
-            length += 1;
-        }
+    let plain = text.iter().copied().filter(|octet| !is_control(*octet));
+    for (place, octet) in plain.enumerate() {
+        memory[place] = octet;
     }
     Ok(length)
 }

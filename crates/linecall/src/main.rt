@@ -9,17 +9,53 @@ ghost use Rattle.negotiation.specs.Transitions.{calls_for_one, is_known, settled
 
 use character::{Characters, Item};
 use negotiation::{Acknowledgement, Line, State, Wanted};
-use std::io;
+use std::{fmt, io};
 
-fn show_state(rt: &HostRuntime, line: &Line) -> io::Result<()> {
-    match line.state() {
-        State::New => println!(rt; "  the line is new"),
-        State::Asking {
-            attempt,
-            milliseconds,
-        } => println!(rt; "  asking, try {attempt}, at {milliseconds} ms"),
-        State::Known => println!(rt; "  the line is known"),
-        State::Clear => println!(rt; "  the line is clear"),
+// A value in the words that are printed of it.
+#[derive(Drop)]
+struct Words<T>(T);
+
+impl fmt::Display for Words<State> {
+    fn fmt<W: fmt::Write>(&self, f: &mut fmt::Formatter<W>) -> fmt::Result {
+        match self.0 {
+            State::New => write!(f, "the line is new"),
+            State::Asking {
+                attempt,
+                milliseconds,
+            } => write!(f, "asking, try {attempt}, at {milliseconds} ms"),
+            State::Known => write!(f, "the line is known"),
+            State::Clear => write!(f, "the line is clear"),
+        }
+    }
+}
+
+impl fmt::Display for Words<Item> {
+    fn fmt<W: fmt::Write>(&self, f: &mut fmt::Formatter<W>) -> fmt::Result {
+        match self.0 {
+            Item::Enquiry => write!(f, "an enquiry"),
+            Item::Idle => write!(f, "an idle"),
+            Item::Character(c) => write!(f, "the character {c}"),
+            Item::Broken(octet) => write!(f, "the broken octet {octet:02X}"),
+        }
+    }
+}
+
+impl fmt::Display for Words<Option<Wanted>> {
+    fn fmt<W: fmt::Write>(&self, f: &mut fmt::Formatter<W>) -> fmt::Result {
+        match self.0 {
+            Some(Wanted::EnquiryBurst) => write!(f, "an enquiry burst"),
+            None => write!(f, "nothing"),
+        }
+    }
+}
+
+impl fmt::Display for Words<Option<Acknowledgement>> {
+    fn fmt<W: fmt::Write>(&self, f: &mut fmt::Formatter<W>) -> fmt::Result {
+        match self.0 {
+            Some(Acknowledgement::Idle) => write!(f, "by an idle"),
+            Some(Acknowledgement::Text) => write!(f, "by the text"),
+            None => write!(f, "no need"),
+        }
     }
 }
 
@@ -33,86 +69,79 @@ fn waits(waiting: bool) -> &'static str
     }
 }
 
-// Some milliseconds pass.
-fn tick(rt: &HostRuntime, line: &mut Line, milliseconds: u32, waiting: bool) -> io::Result<()> {
-    let wanted = line.tick(milliseconds, waiting);
-    let waits = waits(waiting);
-    println!(rt; "{milliseconds} ms passed, {waits}")?;
-    match wanted {
-        Wanted::EnquiryBurst => println!(rt; "  wanted: an enquiry burst")?,
-        Wanted::Nothing => println!(rt; "  wanted: nothing")?,
-    }
-    show_state(rt, line)
-}
-
-// The items of a burst, each with its place.
-fn show_items(rt: &HostRuntime, burst: &[u8]) -> io::Result<()> {
-    for placed in Characters::new(burst) {
-        let place = placed.place;
-        match placed.item {
-            Item::Enquiry => println!(rt; "  at {place}: an enquiry")?,
-            Item::Idle => println!(rt; "  at {place}: an idle")?,
-            Item::Character(c) => println!(rt; "  at {place}: the character {c}")?,
-            Item::Broken(octet) => println!(rt; "  at {place}: the broken octet {octet:02X}")?,
-        }
-    }
-    Ok(())
-}
-
 // What is sent for a burst that was heard: each due is settled before anything else can fail.
 fn acknowledge(line: &mut Line, burst: &[u8], waiting: bool) -> Option<Acknowledgement>
     ensures after { line.new.state ≡ KnownLine }
     ensures value { result ≡ (if calls_for_one (holds_enquiry burst.now) (is_known line.old.state) then Some (settled waiting) else None) }
 {
-    match line.hear(burst) {
-        Some(due) => {
-            let sent = due.settle(waiting);
-            Some(sent)
-        }
-        None => None,
-    }
+    line.hear(burst).map(|due| due.settle(waiting))
 }
 
-// A burst is heard.
-fn hear(rt: &HostRuntime, line: &mut Line, burst: &[u8], waiting: bool) -> io::Result<()> {
-    let sent = acknowledge(line, burst, waiting);
-    let waits = waits(waiting);
-    println!(rt; "a burst heard, {waits}")?;
-    show_items(rt, burst)?;
-    match sent {
-        Some(Acknowledgement::Idle) => println!(rt; "  acknowledged: by an idle")?,
-        Some(Acknowledgement::Text) => println!(rt; "  acknowledged: by the text")?,
-        None => println!(rt; "  acknowledged: no need")?,
+// A line, and where what happens on it is printed.
+#[derive(Drop)]
+struct Run<'a> {
+    rt: &'a HostRuntime,
+    line: Line,
+}
+
+impl<'a> Run<'a> {
+    fn open(rt: &'a HostRuntime) -> Self {
+        Run {
+            rt,
+            line: Line::open(),
+        }
     }
-    show_state(rt, line)
+
+    fn show_state(&self) -> io::Result<()> {
+        println!(self.rt; "  {}", Words(self.line.state()))
+    }
+
+    // Some milliseconds pass.
+    fn tick(&mut self, milliseconds: u32, waiting: bool) -> io::Result<()> {
+        let wanted = self.line.tick(milliseconds, waiting);
+        println!(self.rt; "{milliseconds} ms passed, {}", waits(waiting))?;
+        println!(self.rt; "  wanted: {}", Words(wanted))?;
+        self.show_state()
+    }
+
+    // A burst is heard.
+    fn hear(&mut self, burst: &[u8], waiting: bool) -> io::Result<()> {
+        let sent = acknowledge(&mut self.line, burst, waiting);
+        println!(self.rt; "a burst heard, {}", waits(waiting))?;
+        for placed in Characters::new(burst) {
+            println!(self.rt; "  at {}: {}", placed.place, Words(placed.item))?;
+        }
+        println!(self.rt; "  acknowledged: {}", Words(sent))?;
+        self.show_state()
+    }
 }
 
 // The far end answers the second try.
 fn answered(rt: &HostRuntime) -> io::Result<()> {
-    let mut line = Line::open();
     println!(rt; "the far end answers")?;
-    show_state(rt, &line)?;
-    tick(rt, &mut line, 40, false)?;
-    tick(rt, &mut line, 40, true)?;
-    tick(rt, &mut line, 1319, true)?;
-    tick(rt, &mut line, 1, true)?;
-    hear(rt, &mut line, b"\x16", true)?;
-    hear(rt, &mut line, b"caf\xC3\xA9\xE2\x82", true)?;
-    hear(rt, &mut line, b"\x05\x16", false)?;
-    tick(rt, &mut line, 60000, true)
+    let mut run = Run::open(rt);
+    run.show_state()?;
+    run.tick(40, false)?;
+    run.tick(40, true)?;
+    run.tick(1319, true)?;
+    run.tick(1, true)?;
+    run.hear(b"\x16", true)?;
+    run.hear(b"caf\xC3\xA9\xE2\x82", true)?;
+    run.hear(b"\x05\x16", false)?;
+    run.tick(60000, true)
 }
 
 // The far end is silent through all three tries, and is heard later.
 fn silent(rt: &HostRuntime) -> io::Result<()> {
-    let mut line = Line::open();
     println!(rt; "the far end is silent")?;
-    tick(rt, &mut line, 2000, true)?;
-    tick(rt, &mut line, 1320, true)?;
-    tick(rt, &mut line, 4294967295, false)?;
-    tick(rt, &mut line, 700, false)?;
-    tick(rt, &mut line, 700, true)?;
-    tick(rt, &mut line, 5000, true)?;
-    hear(rt, &mut line, b"GA", false)
+    let mut run = Run::open(rt);
+    run.tick(2000, true)?;
+    run.tick(1320, true)?;
+    run.tick(4294967295, false)?;
+    run.tick(700, false)?;
+    run.tick(700, true)?;
+    run.tick(5000, true)?;
+    run.hear(b"GA", false)
 }
 
 fn main(rt: HostRuntime) -> io::Result<()> {

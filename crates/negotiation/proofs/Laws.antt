@@ -1,5 +1,4 @@
 -- A list of calls, one after the other, leads where the definitions over the whole list say; and the law over all lists.
--- Assumes nothing.
 use Rattle.std.proofs.Common.{◌≡◌, ℕ, ◌+◌, ◌-◌, ◌^◌, ◌<◌, ◌≤◌, Bool, true, false, cond, not, ◌&&◌, ltb, List, [], ◌∷◌, length, get_or, take, fold, sym, refl, ap, ◌∙◌, subst, add-zero, add_assoc, zero-add, arith}
 use Rattle.std.proofs.lemmas.Bool.{ltb-true, ltb-false, false≢true}
 use Rattle.std.proofs.lemmas.List.Sums.{fold_more}

@@ -1,5 +1,4 @@
 -- Lists of calls from a line's opening: where they lead, and the law over all of them.
--- Assumes nothing.
 use Rattle.std.specs.Prelude.{◌≡◌, ℕ, ◌+◌, ◌≤◌, Bool, true, false, cond, ◌&&◌, List, [], ◌∷◌}
 use Rattle.character.specs.Reader.{holds_enquiry}
 use Rattle.negotiation.specs.declared.State.{State}

@@ -1,5 +1,4 @@
 -- What the private steps promise each other.
--- Assumes nothing.
 use Rattle.std.specs.Prelude.{◌+◌, ◌^◌, ◌<◌, Bool, cond, not, ◌&&◌}
 use Rattle.character.specs.Reader.{holds_enquiry}
 use Rattle.negotiation.specs.declared.Acknowledgement.{Acknowledgement}

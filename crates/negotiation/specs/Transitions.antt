@@ -1,10 +1,9 @@
 -- The states of a line, and what each call makes of them.
--- Assumes nothing.
 use Rattle.std.specs.Prelude.{ℕ, ◌+◌, Bool, true, false, cond, not, ◌||◌, Some, None, Option, nat_lt}
 use Rattle.negotiation.specs.declared.State.{State}
 use Rattle.negotiation.specs.declared.State.TheVariants.{New, Asking, Known, Clear}
 use Rattle.negotiation.specs.declared.Wanted.{Wanted}
-use Rattle.negotiation.specs.declared.Wanted.TheVariants.{Nothing, EnquiryBurst}
+use Rattle.negotiation.specs.declared.Wanted.TheVariants.{EnquiryBurst}
 use Rattle.negotiation.specs.declared.Acknowledgement.{Acknowledgement}
 use Rattle.negotiation.specs.declared.Acknowledgement.TheVariants.{Idle, Text}
 use Rattle.negotiation.specs.declared.Due.{Due}
@@ -29,9 +28,9 @@ starts_try (Asking attempt milliseconds) passed waiting = cond (over (millisecon
 starts_try Known passed waiting = false
 starts_try Clear passed waiting = false
 
--- what a call wants
-abbrev pub wanted : Bool → Wanted
-wanted starts = cond starts EnquiryBurst Nothing
+-- what a call wants: an enquiry burst where it starts a try, and else nothing
+abbrev pub wanted : Bool → Option Wanted
+wanted starts = cond starts (Some EnquiryBurst) None
 
 -- a burst has been heard on the line since it was opened
 abbrev pub is_known : State → Bool

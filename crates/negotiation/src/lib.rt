@@ -1,9 +1,10 @@
 // Whether the far end can hear us: the states of a line, and the acknowledgements that it owes.
 #![tactic(auto)]
 
-ghost use Rattle.std.specs.Prelude.{◌≡◌, true};
+ghost use Rattle.std.specs.Prelude.{◌≡◌};
 ghost use Rattle.character.specs.Reader.{holds_enquiry};
 ghost use Rattle.negotiation.specs.declared.State.TheVariants.{New as NewLine, Asking as AskingLine, Known as KnownLine};
+ghost use Rattle.negotiation.specs.declared.Wanted.TheVariants.{EnquiryBurst};
 ghost use Rattle.negotiation.specs.Calls.{Outcome};
 ghost use Rattle.negotiation.specs.Steps.{Room, counted, stepped};
 ghost use Rattle.negotiation.specs.Transitions.{ticked, starts_try, wanted, is_known, calls_for_one, due_of, settled};
@@ -17,9 +18,10 @@ pub const TRY_MILLISECONDS: u32 = 1320;
 pub const TRIES: u8 = 3;
 
 // What a line knows of its far end.
-#[derive(Clone, Copy, PartialEq, Eq, Debug)]
+#[derive(Clone, Copy, PartialEq, Eq, Debug, Default)]
 pub enum State {
     // nothing was sent or heard
+    #[default]
     New,
     // we ask: which try it is, from 1, and the milliseconds in it
     Asking { attempt: u8, milliseconds: u32 },
@@ -29,10 +31,9 @@ pub enum State {
     Clear,
 }
 
-// What a call wants sent.
+// What a call wants sent, where it wants anything.
 #[derive(Clone, Copy, PartialEq, Eq, Debug)]
 pub enum Wanted {
-    Nothing,
     EnquiryBurst,
 }
 
@@ -80,17 +81,16 @@ impl Line {
     pub fn state(&self) -> State
         ensures { result ≡ self.now.state }
     {
-        let Line { state } = self;
-        *state
+        self.state
     }
 
-    // So many milliseconds have passed, and text waits or not. Says whether an enquiry burst is wanted.
-    pub fn tick(&mut self, milliseconds: u32, waiting: bool) -> Wanted
+    // So many milliseconds have passed, and text waits or not. Says what is wanted: an enquiry burst, where a try starts.
+    pub fn tick(&mut self, milliseconds: u32, waiting: bool) -> Option<Wanted>
         ensures after { self.new.state ≡ ticked self.old.state milliseconds waiting }
         ensures value { result ≡ wanted (starts_try self.old.state milliseconds waiting) }
     {
         match self.state {
-            State::New if waiting => self.start(1),
+            State::New if waiting => Some(self.start(1)),
             State::Asking {
                 attempt,
                 milliseconds: before,
@@ -101,22 +101,22 @@ impl Line {
                         attempt,
                         milliseconds: sum,
                     };
-                    Wanted::Nothing
+                    None
                 } else if attempt < TRIES {
-                    self.start(attempt + 1)
+                    Some(self.start(attempt + 1))
                 } else {
                     self.state = State::Clear;
-                    Wanted::Nothing
+                    None
                 }
             }
-            _ => Wanted::Nothing,
+            _ => None,
         }
     }
 
     // Starts a try.
     fn start(&mut self, attempt: u8) -> Wanted
         ensures after { self.new.state ≡ AskingLine attempt 0 }
-        ensures value { result ≡ wanted true }
+        ensures value { result ≡ EnquiryBurst }
     {
         self.state = State::Asking {
             attempt,
@@ -132,11 +132,7 @@ impl Line {
     {
         let first = self.state != State::Known;
         self.state = State::Known;
-        if holds_enquiry(burst) || first {
-            Some(Due { owed: () })
-        } else {
-            None
-        }
+        (holds_enquiry(burst) || first).then(|| Due { owed: () })
     }
 }
 
@@ -149,8 +145,8 @@ pub enum Call<'a> {
     Hear { burst: &'a [u8], waiting: bool },
 }
 
-// What a list of calls led to.
-#[derive(Clone, Copy, PartialEq, Eq, Debug)]
+// What a list of calls led to. It holds the state and no line, so that it can be copied and compared.
+#[derive(Clone, Copy, PartialEq, Eq, Debug, Default)]
 pub struct Played {
     pub state: State,
     pub tries: usize,
@@ -171,43 +167,36 @@ impl Played {
     }
 
     // One call more.
-    fn with(self, call: &Call) -> Played
-        requires { Room self }
-        ensures { result ≡ stepped self call.now }
+    fn play(&mut self, call: &Call)
+        requires { Room self.old }
+        ensures { self.new ≡ stepped self.old call.now }
     {
         let mut line = Line { state: self.state };
-        let mut played = self;
-        match call {
+        match *call {
             Call::Tick {
                 milliseconds,
                 waiting,
-            } => match line.tick(*milliseconds, *waiting) {
-                Wanted::EnquiryBurst => played.tries += 1,
-                Wanted::Nothing => {}
-            },
+            } => {
+                if line.tick(milliseconds, waiting).is_some() {
+                    self.tries += 1;
+                }
+            }
             Call::Hear { burst, waiting } => {
                 if let Some(due) = line.hear(burst) {
-                    played.count(due.settle(*waiting));
+                    self.count(due.settle(waiting));
                 }
             }
         }
-        played.state = line.state;
-        played
+        self.state = line.state;
     }
 
     // Plays a list of calls on a line that was just opened, and settles each due as it is given out.
     pub fn of(calls: &[Call]) -> Played
         ensures { Outcome calls.now result }
     {
-        let line = Line::open();
-        let mut played = Played {
-            state: line.state,
-            tries: 0,
-            idles: 0,
-            texts: 0,
-        };
+        let mut played = Played::default();
         for call in calls {
-            played = played.with(call);
+            played.play(call);
         }
         played
     }

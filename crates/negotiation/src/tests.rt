@@ -2,12 +2,12 @@
 use crate::{Call, Line, Played, State, Wanted};
 
 // Milliseconds, whether text waits, then what is wanted and the state after it.
-const TICKS: [(u32, bool, Wanted, State); 12] = [
-    (5000, false, Wanted::Nothing, State::New),
+const TICKS: [(u32, bool, Option<Wanted>, State); 12] = [
+    (5000, false, None, State::New),
     (
         5000,
         true,
-        Wanted::EnquiryBurst,
+        Some(Wanted::EnquiryBurst),
         State::Asking {
             attempt: 1,
             milliseconds: 0,
@@ -16,7 +16,7 @@ const TICKS: [(u32, bool, Wanted, State); 12] = [
     (
         0,
         true,
-        Wanted::Nothing,
+        None,
         State::Asking {
             attempt: 1,
             milliseconds: 0,
@@ -25,7 +25,7 @@ const TICKS: [(u32, bool, Wanted, State); 12] = [
     (
         1319,
         true,
-        Wanted::Nothing,
+        None,
         State::Asking {
             attempt: 1,
             milliseconds: 1319,
@@ -34,7 +34,7 @@ const TICKS: [(u32, bool, Wanted, State); 12] = [
     (
         0,
         false,
-        Wanted::Nothing,
+        None,
         State::Asking {
             attempt: 1,
             milliseconds: 1319,
@@ -43,7 +43,7 @@ const TICKS: [(u32, bool, Wanted, State); 12] = [
     (
         1,
         true,
-        Wanted::EnquiryBurst,
+        Some(Wanted::EnquiryBurst),
         State::Asking {
             attempt: 2,
             milliseconds: 0,
@@ -52,7 +52,7 @@ const TICKS: [(u32, bool, Wanted, State); 12] = [
     (
         700,
         false,
-        Wanted::Nothing,
+        None,
         State::Asking {
             attempt: 2,
             milliseconds: 700,
@@ -61,7 +61,7 @@ const TICKS: [(u32, bool, Wanted, State); 12] = [
     (
         4294967295,
         false,
-        Wanted::EnquiryBurst,
+        Some(Wanted::EnquiryBurst),
         State::Asking {
             attempt: 3,
             milliseconds: 0,
@@ -70,15 +70,15 @@ const TICKS: [(u32, bool, Wanted, State); 12] = [
     (
         1319,
         true,
-        Wanted::Nothing,
+        None,
         State::Asking {
             attempt: 3,
             milliseconds: 1319,
         },
     ),
-    (1320, true, Wanted::Nothing, State::Clear),
-    (4294967295, true, Wanted::Nothing, State::Clear),
-    (0, true, Wanted::Nothing, State::Clear),
+    (1320, true, None, State::Clear),
+    (4294967295, true, None, State::Clear),
+    (0, true, None, State::Clear),
 ];
 
 #[test]

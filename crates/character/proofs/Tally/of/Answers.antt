@@ -3,8 +3,8 @@ use Rattle.character.specs.Forms.{Room, one_more}
 use Rattle.character.proofs.Runs.{reading, only, room, tally_push}
 use Rattle.character.proofs.Tally.of.Goals as goal
 
-pub with-tally-requires : goal.with-tally-requires
-with-tally-requires c =
+pub count-requires : goal.count-requires
+count-requires c =
     let s = c.into_iter-placed-iterator.result in
     let b = c.into_iter-placed-iterator.ensures.into_iter_gives in
     let e : s.text.now ≡ c.args.text.now = ap (λ u. u.text.now) b ∙ c.new-placed-items.ensures.text in
@@ -12,7 +12,7 @@ with-tally-requires c =
 
 pub loop-placed-preserved : goal.loop-placed-preserved
 loop-placed-preserved c =
-    (tt, tt, c.with-tally.ensures ∙ ap (λ t. one_more t c.in-Some.placed.item) c.loop-placed.invariant.2 ∙ sym (tally_push c.loop-placed.yielded c.in-Some.placed))
+    (tt, tt, c.count.ensures ∙ ap (λ t. one_more t c.in-Some.placed.item) c.loop-placed.invariant.2 ∙ sym (tally_push c.loop-placed.yielded c.in-Some.placed))
 
 pub returns : goal.returns
 returns c =

@@ -5,12 +5,12 @@ use Rattle.negotiation.specs.Steps.{stepped}
 use Rattle.negotiation.proofs.Laws.{opened, outcome, room, again}
 use Rattle.negotiation.proofs.Played.of.Goals as goal
 
-pub with-played-requires : goal.with-played-requires
-with-played-requires c = room c.loop-call.played c.loop-call.call-index (length c.args.calls.now) c.loop-call.invariant.1 c.loop-call-test.true (omega arith)
+pub play-requires : goal.play-requires
+play-requires c = room c.loop-call.played c.loop-call.call-index (length c.args.calls.now) c.loop-call.invariant.1 c.loop-call-test.true (omega arith)
 
 pub loop-call-preserved : goal.loop-call-preserved
 loop-call-preserved c =
-    again c.args.calls.now c.loop-call.call-index (Tick 0 false) c.loop-call.played c.with-played.result c.loop-call-test.true c.loop-call.invariant.0 c.loop-call.invariant.1 c.with-played.ensures
+    again c.args.calls.now c.loop-call.call-index (Tick 0 false) c.loop-call.played c.play.new.self c.loop-call-test.true c.loop-call.invariant.0 c.loop-call.invariant.1 c.play.ensures
 
 pub returns : goal.returns
 returns c =
