@@ -10,6 +10,7 @@ ghost use Rattle.trellis.specs.Search.{search_answer, steps_of};
 
 use code::check_length;
 use refusal::Refusal;
+use std::array;
 
 // A source of soft bits: what each coded bit costs, the greater the less it was heard.
 pub trait SoftBits {
@@ -31,7 +32,8 @@ const BRANCH: [usize; 8] = [0, 14, 11, 5, 12, 2, 7, 9];
 
 // What each combination of two coded bits costs, the first counting 1.
 fn pair_costs(first: (u16, u16), second: (u16, u16)) -> [u32; 4]
-    ensures { result ≡ (first.0 + second.0) ∷ (first.1 + second.0) ∷ (first.0 + second.1) ∷ (first.1 + second.1) ∷ [] }
+    ensures small { (i : ℕ) → slice_index result i < 2 ^ 17 }
+    ensures sums { result ≡ (first.0 + second.0) ∷ (first.1 + second.0) ∷ (first.0 + second.1) ∷ (first.1 + second.1) ∷ [] }
 {
     let [a0, a1, b0, b1] = [first.0, first.1, second.0, second.1].map(u32::from);
     [a0 + b0, a1 + b0, a0 + b1, a1 + b1]
@@ -43,26 +45,9 @@ fn label_costs<S: SoftBits>(source: &S, step: usize) -> [u32; 16]
     ensures priced { (q : ℕ) → q < 16 → slice_index result q ≡ label_cost (S.SoftBits.cost source.now) step q }
     ensures bounded { Bounded (S.SoftBits.cost source.now) step 65535 → Bounded (S.SoftBits.cost source.now) (step + 1) 65535 }
 {
-    let [f0, f1, f2, f3] = pair_costs(source.costs(4 * step), source.costs(4 * step + 1));
-    let [l0, l1, l2, l3] = pair_costs(source.costs(4 * step + 2), source.costs(4 * step + 3));
-    [
-        f0 + l0,
-        f1 + l0,
-        f2 + l0,
-        f3 + l0,
-        f0 + l1,
-        f1 + l1,
-        f2 + l1,
-        f3 + l1,
-        f0 + l2,
-        f1 + l2,
-        f2 + l2,
-        f3 + l2,
-        f0 + l3,
-        f1 + l3,
-        f2 + l3,
-        f3 + l3,
-    ]
+    let first = pair_costs(source.costs(4 * step), source.costs(4 * step + 1));
+    let last = pair_costs(source.costs(4 * step + 2), source.costs(4 * step + 3));
+    array::from_fn(|q| first[q % 4] + last[q / 4])
 }
 
 // The cheaper of two ways into a state, and whether it is the second; a tie goes to the first.
