@@ -140,10 +140,10 @@ impl State {
         requires { step + 4 ≤ length work.now }
         ensures { result.number ≡ four_back work.now step self.number }
     {
-        self.before(work[step + 3])
-            .before(work[step + 2])
-            .before(work[step + 1])
-            .before(work[step])
+        work[step..step + 4]
+            .iter()
+            .rev()
+            .fold(self, |state, decisions| state.before(*decisions))
     }
 }
 
@@ -160,6 +160,7 @@ fn trace_back(work: &[u16], text: &mut [u8])
     ensures { (i : ℕ) → i < length text.old → slice_index text.new i ≡ octet i (traced work.now (length work.now) 0) }
 {
     let mut state = State::ZERO;
+    // Over places: of what a reversed `iter_mut` wrote, a proof knows only the length.
     for i in (0..text.len()).rev() {
         let high = state.before_four(work, 8 * i + 8);
         let low = high.before_four(work, 8 * i + 4);
@@ -168,7 +169,8 @@ fn trace_back(work: &[u16], text: &mut [u8])
     }
 }
 
-// The search where the memory fits: both passes, over as many octets as `text` has places.
+// The search where the memory fits: both passes, over as many octets as `text` has places. The two stay apart, since
+// the first pass takes `work` alone and the caller lends them apart.
 fn search<S: SoftBits>(source: &S, text: &mut [u8], work: &mut [u16]) -> u32
     requires { (length text.old ≤ 240) × (length work.old ≡ 8 * length text.old + 4) }
     ensures nearest { Nearest (S.SoftBits.cost source.now) (length text.old) text.new }
