@@ -1,7 +1,7 @@
 // The search for the text that lies nearest to what was heard, over any source of soft bits.
 #![tactic(auto)]
 
-ghost use Rattle.std.specs.Prelude.{◌≡◌, ℕ, ◌+◌, ◌*◌, ◌/◌, ◌%◌, ◌^◌, ◌<◌, ◌≤◌, Bool, true, false, ltb, List, [], ◌∷◌, length, take, is_ok, if◌then◌else◌, nat_lt, slice_index};
+ghost use Rattle.std.specs.Prelude.{◌≡◌, ℕ, ◌+◌, ◌*◌, ◌/◌, ◌%◌, ◌^◌, ◌<◌, ◌≤◌, Bool, true, false, ltb, List, [], ◌∷◌, length, take, OnOk, OnErr, if◌then◌else◌, nat_lt, slice_index};
 ghost use Rattle.refusal.specs.Answer.{after};
 ghost use Rattle.distance.specs.Nearest.{Nearest, distance};
 ghost use Rattle.distance.specs.Apart.{Heard, HeardWithin};
@@ -200,10 +200,10 @@ pub fn nearest_text<S: SoftBits>(
 ) -> Result<u32, Refusal>
     ensures answer { result ≡ search_answer m (length text.old) (length work.old) (distance (S.SoftBits.cost source.now) (take m text.new)) }
     ensures memory { text.new ≡ after result (take m text.new) text.old }
-    ensures working { (length work.new ≡ length work.old) × (is_ok result ≡ false → work.new ≡ work.old) }
-    ensures nearest { is_ok result ≡ true → Nearest (S.SoftBits.cost source.now) m (take m text.new) }
-    ensures only { is_ok result ≡ true → (other : List ℕ) → Nearest (S.SoftBits.cost source.now) m other → take m text.new ≡ other }
-    ensures corrected { is_ok result ≡ true → (sent : List ℕ) (heard : ℕ → Heard) → HeardWithin 15 (S.SoftBits.cost source.now) m sent heard → take m text.new ≡ sent }
+    ensures working { (length work.new ≡ length work.old) × OnErr result (work.new ≡ work.old) }
+    ensures nearest { OnOk result (Nearest (S.SoftBits.cost source.now) m (take m text.new)) }
+    ensures only { OnOk result ((other : List ℕ) → Nearest (S.SoftBits.cost source.now) m other → take m text.new ≡ other) }
+    ensures corrected { OnOk result ((sent : List ℕ) (heard : ℕ → Heard) → HeardWithin 15 (S.SoftBits.cost source.now) m sent heard → take m text.new ≡ sent) }
 {
     check_length(m)?;
     let steps = steps_for(m);

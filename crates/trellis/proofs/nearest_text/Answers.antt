@@ -1,5 +1,5 @@
 -- The text found stands in the first places, and the rest of the memory is as it was.
-use Rattle.std.proofs.Common.{◌≡◌, ◌+◌, ◌-◌, ◌*◌, ◌||◌, ltb, ◌++◌, length, take, drop, Ok, sym, ap, ◌∙◌, subst, true≢false, arith, length-take, rules}
+use Rattle.std.proofs.Common.{◌≡◌, ◌+◌, ◌-◌, ◌*◌, ◌||◌, ltb, ◌++◌, length, take, drop, Ok, sym, ap, ◌∙◌, subst, arith, length-take, rules}
 use Rattle.distance.proofs.Reading.{corrected, nearest_once}
 use Rattle.distance.specs.Nearest.{Nearest, distance}
 use Rattle.refusal.proofs.Checks.{past, text_past}
@@ -30,8 +30,8 @@ returns g c =
     record {
       answer = ap Ok (c.search.ensures.value ∙ ap (distance cost) (sym front)) ∙ (sym (past short MemoryTooShort answer room) ∙ sym told.0);
       memory = ap (λ n. found ++ drop n text) past-it ∙ ap (λ t. t ++ drop (length t) text) (sym front);
-      working = (search rules, λ e. absurd (true≢false e));
-      nearest = λ _. near;
-      only = λ _ other o. nearest_once cost m (take m all) other near o;
-      corrected = λ _ sent heard h. corrected cost m sent heard h (take m all) near;
+      working = search rules;
+      nearest = near;
+      only = λ other o. nearest_once cost m (take m all) other near o;
+      corrected = λ sent heard h. corrected cost m sent heard h (take m all) near;
     }
