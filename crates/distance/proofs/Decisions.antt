@@ -1,5 +1,4 @@
 -- The decision bits of a step, and what each state takes, gathered state by state.
--- Assumes nothing.
 use Rattle.std.proofs.Common.{◌≡◌, ℕ, zero, suc, ◌+◌, ◌-◌, ◌*◌, ◌/◌, ◌%◌, ◌^◌, ◌<◌, ◌≤◌, Bool, true, false, cond, ltb, List, length, get_or, set, sym, refl, ap, ◌∙◌, subst, ⊎_elim, mod-eq_of_lt, mul_comm, add_comm, pow-suc, add-one, arith, lit<, length-set, get_or-set_other, get_or-set_same, pow_pos, pow-add}
 use mathlib.Core.Bool.{xor}
 use native.Mathlib.Nat.{add-mul-div_right, add-mul-mod_self_right, div-eq_of_lt}
@@ -49,7 +48,6 @@ joined metrics costs next low high h lows highs s l = ⊎_elim below above (case
 
 -- the table's rule: a new 1 inverts all four coded bits, and so does a 1 that drops out
 record Labelled (j b : ℕ) : Type 0 where
-  small : b < 16
   zero_zero : label (2 * j) ≡ b
   zero_one : label (2 * j + 16) ≡ 15 - b
   one_zero : label (2 * j + 1) ≡ 15 - b
@@ -57,14 +55,14 @@ record Labelled (j b : ℕ) : Type 0 where
 
 labelled : (j : ℕ) → j < 8 → Labelled j (get_or labels j 0)
 unfolding xor
-labelled zero h = record { small = lit< tt; zero_zero = refl; zero_one = refl; one_zero = refl; one_one = refl }
-labelled (suc zero) h = record { small = lit< tt; zero_zero = refl; zero_one = refl; one_zero = refl; one_one = refl }
-labelled (suc (suc zero)) h = record { small = lit< tt; zero_zero = refl; zero_one = refl; one_zero = refl; one_one = refl }
-labelled (suc (suc (suc zero))) h = record { small = lit< tt; zero_zero = refl; zero_one = refl; one_zero = refl; one_one = refl }
-labelled (suc (suc (suc (suc zero)))) h = record { small = lit< tt; zero_zero = refl; zero_one = refl; one_zero = refl; one_one = refl }
-labelled (suc (suc (suc (suc (suc zero))))) h = record { small = lit< tt; zero_zero = refl; zero_one = refl; one_zero = refl; one_one = refl }
-labelled (suc (suc (suc (suc (suc (suc zero)))))) h = record { small = lit< tt; zero_zero = refl; zero_one = refl; one_zero = refl; one_one = refl }
-labelled (suc (suc (suc (suc (suc (suc (suc zero))))))) h = record { small = lit< tt; zero_zero = refl; zero_one = refl; one_zero = refl; one_one = refl }
+labelled zero h = record { zero_zero = refl; zero_one = refl; one_zero = refl; one_one = refl }
+labelled (suc zero) h = record { zero_zero = refl; zero_one = refl; one_zero = refl; one_one = refl }
+labelled (suc (suc zero)) h = record { zero_zero = refl; zero_one = refl; one_zero = refl; one_one = refl }
+labelled (suc (suc (suc zero))) h = record { zero_zero = refl; zero_one = refl; one_zero = refl; one_one = refl }
+labelled (suc (suc (suc (suc zero)))) h = record { zero_zero = refl; zero_one = refl; one_zero = refl; one_one = refl }
+labelled (suc (suc (suc (suc (suc zero))))) h = record { zero_zero = refl; zero_one = refl; one_zero = refl; one_one = refl }
+labelled (suc (suc (suc (suc (suc (suc zero)))))) h = record { zero_zero = refl; zero_one = refl; one_zero = refl; one_one = refl }
+labelled (suc (suc (suc (suc (suc (suc (suc zero))))))) h = record { zero_zero = refl; zero_one = refl; one_zero = refl; one_one = refl }
 labelled (suc (suc (suc (suc (suc (suc (suc (suc j)))))))) h = absurd (omega arith)
 
 -- what the table gives for the candidates of states j and j + 8
@@ -83,10 +81,6 @@ module _ (metrics costs : List ℕ) (j : ℕ) (h : j < 8) where
 
   high_one : candidate metrics costs (j + 8) 1 ≡ get_or metrics (2 * j + 1) 0 + get_or costs (get_or labels j 0) 0
   high_one = at (j + 8) 1 (2 * j + 1) _ (omega arith) (ap label (omega arith) ∙ (labelled j h).one_one)
-
--- a label is an index of the costs
-pub label_small : (j : ℕ) → j < 8 → get_or labels j 0 < 16
-label_small j h = (labelled j h).small
 
 -- a bit, as the code turns it into a number
 pub byte_one : (b : Bool) → bool_byte b ≡ one b
