@@ -1,27 +1,20 @@
--- The coder's steps: what the register holds, and which coded bits a step gives. Assumes nothing.
-use Rattle.std.proofs.Common.{◌≡◌, ℕ, zero, suc, ◌+◌, ◌-◌, ◌*◌, ◌/◌, ◌%◌, ◌<◌, Bool, false, cond, ltb, List, [], ◌∷◌, map, get_or, take, sym, refl, ap, ◌∙◌, mul_comm, arith}
+-- The coder's steps: what the register holds, and which coded bits a step gives.
+use Rattle.std.proofs.Common.{◌≡◌, ℕ, suc, ◌+◌, ◌-◌, ◌*◌, ◌/◌, ◌%◌, ◌<◌, Bool, false, cond, ltb, List, [], ◌∷◌, map, get_or, take, sym, refl, ap, ◌∙◌, mul_comm, arith, lit<}
 use Rattle.std.specs.List.{range_with_len}
-use Rattle.std.proofs.lemmas.Nat.{mod_below, div-mul-add, mod-mul-add}
+use Rattle.std.proofs.lemmas.Nat.{div-mul-add, mod-mul-add}
 use Rattle.std.proofs.lemmas.Bool.Decides.{nat_tests}
 use Rattle.code.specs.Coder.{before, coded, parity, sums}
 use Rattle.code.specs.Register.{latest, shifted_in, four_sums}
 
--- sum j over the register after step k
-sum_at : (b : ℕ → Bool) (k j : ℕ) → j < 4 → get_or (four_sums (latest b k)) j false ≡ parity (map (before b k) (get_or sums j []))
-sum_at b k zero h = refl
-sum_at b k (suc zero) h = refl
-sum_at b k (suc (suc zero)) h = refl
-sum_at b k (suc (suc (suc zero))) h = refl
-sum_at b k (suc (suc (suc (suc j)))) h = absurd (omega arith)
+-- sum j over the register after step k is the coded bit at 4k + j
+sum_gives : (b : ℕ → Bool) (k j : ℕ) → j < 4 → parity (map (before b k) (get_or sums j [])) ≡ coded b (4 * k + j)
+sum_gives b k j h =
+    sym (λ i. parity (map (before b ((ap (λ x. (x + j) / 4) (mul_comm 4 k) ∙ div-mul-add k 4 j h) i)) (get_or sums ((ap (λ x. (x + j) % 4) (mul_comm 4 k) ∙ mod-mul-add k 4 j h) i) [])))
 
--- the coded bit at i is sum i % 4 of step i / 4
-pub sum_of : (b : ℕ → Bool) (i : ℕ) → get_or (four_sums (latest b (i / 4))) (i % 4) false ≡ coded b i
-sum_of b i = sum_at b (i / 4) (i % 4) (mod_below i 4 (omega arith))
-
-pub step_gives : (b : ℕ → Bool) (k j : ℕ) → j < 4 → get_or (four_sums (latest b k)) j false ≡ coded b (4 * k + j)
-step_gives b k j h =
-    sum_at b k j h
-    ∙ sym (λ i. parity (map (before b ((ap (λ x. (x + j) / 4) (mul_comm 4 k) ∙ div-mul-add k 4 j h) i)) (get_or sums ((ap (λ x. (x + j) % 4) (mul_comm 4 k) ∙ mod-mul-add k 4 j h) i) [])))
+-- the four sums over the register after step k are its coded bits
+pub step_gives : (b : ℕ → Bool) (k : ℕ) → four_sums (latest b k) ≡ map (λ j. coded b (4 * k + j)) (range_with_len 0 4)
+step_gives b k i =
+    sum_gives b k 0 (lit< tt) i ∷ sum_gives b k 1 (lit< tt) i ∷ sum_gives b k 2 (lit< tt) i ∷ sum_gives b k 3 (lit< tt) i ∷ []
 
 -- what the register holds before step k
 abbrev pub held : (ℕ → Bool) → ℕ → List Bool
@@ -48,7 +41,3 @@ pub latest_held : (b : ℕ → Bool) (k : ℕ) → latest b k ≡ held b (k + 1)
 latest_held b k =
     sym
     (λ i. before_next b k 0 1 refl i ∷ before_next b k 1 2 refl i ∷ before_next b k 2 3 refl i ∷ before_next b k 3 4 refl i ∷ before_next b k 4 5 refl i ∷ [])
-
--- before the first step the register is empty
-pub held_none : (b : ℕ → Bool) → held b 0 ≡ false ∷ false ∷ false ∷ false ∷ false ∷ []
-held_none b = refl

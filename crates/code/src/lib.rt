@@ -7,9 +7,16 @@ ghost use Rattle.code.specs.Coder.{before, bit, coded_bits, coded_bit_answer, co
 ghost use Rattle.code.specs.Register.{latest, shifted_in, four_sums};
 
 use refusal::Refusal;
+use std::array;
 
 // The greatest number of octets of a text.
 pub const LONGEST_TEXT: usize = 240;
+
+// How many coded bits a step sends.
+const SUMS: usize = 4;
+
+// How many zero bits follow a text: they empty the register's memory.
+const TAIL: usize = 4;
 
 // Refuses a number of octets that no text has.
 pub fn check_length(m: usize) -> Result<(), Refusal>
@@ -29,31 +36,26 @@ pub fn coded_count(m: usize) -> Result<usize, Refusal>
     ensures { result ≡ text_checked m (Ok (coded_count m)) }
 {
     check_length(m)?;
-    Ok(32 * m + 16)
+    Ok(SUMS * (8 * m + TAIL))
 }
 
 // The bit of the text that is sent at step k; zero bits follow the last octet.
 pub fn bit_at(text: &[u8], k: usize) -> bool
     ensures { result ≡ bit text.now k }
 {
-    match text.get(k / 8) {
-        Some(octet) => (*octet >> (k % 8)) & 1 == 1,
-        None => false,
-    }
+    text.get(k / 8)
+        .is_some_and(|octet| (*octet >> (k % 8)) & 1 == 1)
 }
 
 // The bit d steps before step k; zero bits stand before the first.
 fn bit_before(text: &[u8], k: usize, d: usize) -> bool
     ensures { result ≡ before (bit text.now) k d }
 {
-    if k < d {
-        return false;
-    }
-    bit_at(text, k - d)
+    k.checked_sub(d).is_some_and(|step| bit_at(text, step))
 }
 
 // The coder's shift register: the last five bits, the newest first.
-#[derive(Clone, Copy)]
+#[derive(Clone, Copy, PartialEq, Eq, Default, Debug)]
 pub struct Register {
     pub bits: [bool; 5],
 }
@@ -64,13 +66,7 @@ impl Register {
         ensures { result.bits ≡ latest (bit text.now) k }
     {
         Register {
-            bits: [
-                bit_before(text, k, 0),
-                bit_before(text, k, 1),
-                bit_before(text, k, 2),
-                bit_before(text, k, 3),
-                bit_before(text, k, 4),
-            ],
+            bits: array::from_fn(|d| bit_before(text, k, d)),
         }
     }
 
@@ -105,8 +101,8 @@ pub fn coded_bit(text: &[u8], i: usize) -> Result<bool, Refusal>
     if i >= coded_count(text.len())? {
         return Err(Refusal::NoSuchPlace);
     }
-    let sums = Register::at(text, i / 4).sums();
-    Ok(sums[i % 4])
+    let sums = Register::at(text, i / SUMS).sums();
+    Ok(sums[i % SUMS])
 }
 
 // Writes the coded bits of the text into the first places of `out`, in one pass, and answers how many there are.
@@ -118,14 +114,11 @@ pub fn encode(text: &[u8], out: &mut [bool]) -> Result<usize, Refusal>
     if out.len() < count {
         return Err(Refusal::MemoryTooShort);
     }
-    let mut register = Register { bits: [false; 5] };
-    for k in 0..count / 4 {
+    let mut register = Register::default();
+    // By ranges: of what `chunks_exact_mut` and `as_chunks_mut` lend, a proof does not know what it ends as.
+    for k in 0..count / SUMS {
         register = register.shifted(bit_at(text, k));
-        let [s0, s1, s2, s3] = register.sums();
-        out[4 * k] = s0;
-        out[4 * k + 1] = s1;
-        out[4 * k + 2] = s2;
-        out[4 * k + 3] = s3;
+        out[SUMS * k..SUMS * (k + 1)].copy_from_slice(&register.sums());
     }
     Ok(count)
 }

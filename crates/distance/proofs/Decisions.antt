@@ -1,5 +1,4 @@
 -- The decision bits of a step, and what each state takes, gathered state by state.
--- Assumes nothing.
 use Rattle.std.proofs.Common.{◌≡◌, ℕ, zero, suc, ◌+◌, ◌-◌, ◌*◌, ◌/◌, ◌%◌, ◌^◌, ◌<◌, ◌≤◌, Bool, true, false, cond, ltb, List, length, get_or, set, sym, refl, ap, ◌∙◌, subst, ⊎_elim, mod-eq_of_lt, mul_comm, add_comm, pow-suc, add-one, arith, lit<, length-set, get_or-set_other, get_or-set_same, pow_pos, pow-add}
 use mathlib.Core.Bool.{xor}
 use native.Mathlib.Nat.{add-mul-div_right, add-mul-mod_self_right, div-eq_of_lt}
@@ -49,7 +48,6 @@ joined metrics costs next low high h lows highs s l = ⊎_elim below above (case
 
 -- the table's rule: a new 1 inverts all four coded bits, and so does a 1 that drops out
 record Labelled (j b : ℕ) : Type 0 where
-  small : b < 16
   zero_zero : label (2 * j) ≡ b
   zero_one : label (2 * j + 16) ≡ 15 - b
   one_zero : label (2 * j + 1) ≡ 15 - b
@@ -57,14 +55,14 @@ record Labelled (j b : ℕ) : Type 0 where
 
 labelled : (j : ℕ) → j < 8 → Labelled j (get_or labels j 0)
 unfolding xor
-labelled zero h = record { small = lit< tt; zero_zero = refl; zero_one = refl; one_zero = refl; one_one = refl }
-labelled (suc zero) h = record { small = lit< tt; zero_zero = refl; zero_one = refl; one_zero = refl; one_one = refl }
-labelled (suc (suc zero)) h = record { small = lit< tt; zero_zero = refl; zero_one = refl; one_zero = refl; one_one = refl }
-labelled (suc (suc (suc zero))) h = record { small = lit< tt; zero_zero = refl; zero_one = refl; one_zero = refl; one_one = refl }
-labelled (suc (suc (suc (suc zero)))) h = record { small = lit< tt; zero_zero = refl; zero_one = refl; one_zero = refl; one_one = refl }
-labelled (suc (suc (suc (suc (suc zero))))) h = record { small = lit< tt; zero_zero = refl; zero_one = refl; one_zero = refl; one_one = refl }
-labelled (suc (suc (suc (suc (suc (suc zero)))))) h = record { small = lit< tt; zero_zero = refl; zero_one = refl; one_zero = refl; one_one = refl }
-labelled (suc (suc (suc (suc (suc (suc (suc zero))))))) h = record { small = lit< tt; zero_zero = refl; zero_one = refl; one_zero = refl; one_one = refl }
+labelled zero h = record { zero_zero = refl; zero_one = refl; one_zero = refl; one_one = refl }
+labelled (suc zero) h = record { zero_zero = refl; zero_one = refl; one_zero = refl; one_one = refl }
+labelled (suc (suc zero)) h = record { zero_zero = refl; zero_one = refl; one_zero = refl; one_one = refl }
+labelled (suc (suc (suc zero))) h = record { zero_zero = refl; zero_one = refl; one_zero = refl; one_one = refl }
+labelled (suc (suc (suc (suc zero)))) h = record { zero_zero = refl; zero_one = refl; one_zero = refl; one_one = refl }
+labelled (suc (suc (suc (suc (suc zero))))) h = record { zero_zero = refl; zero_one = refl; one_zero = refl; one_one = refl }
+labelled (suc (suc (suc (suc (suc (suc zero)))))) h = record { zero_zero = refl; zero_one = refl; one_zero = refl; one_one = refl }
+labelled (suc (suc (suc (suc (suc (suc (suc zero))))))) h = record { zero_zero = refl; zero_one = refl; one_zero = refl; one_one = refl }
 labelled (suc (suc (suc (suc (suc (suc (suc (suc j)))))))) h = absurd (omega arith)
 
 -- what the table gives for the candidates of states j and j + 8
@@ -84,77 +82,75 @@ module _ (metrics costs : List ℕ) (j : ℕ) (h : j < 8) where
   high_one : candidate metrics costs (j + 8) 1 ≡ get_or metrics (2 * j + 1) 0 + get_or costs (get_or labels j 0) 0
   high_one = at (j + 8) 1 (2 * j + 1) _ (omega arith) (ap label (omega arith) ∙ (labelled j h).one_one)
 
--- a label is an index of the costs
-pub label_small : (j : ℕ) → j < 8 → get_or labels j 0 < 16
-label_small j h = (labelled j h).small
-
-byte_below : (b : Bool) → bool_byte b < 2
-byte_below true = lit< tt
-byte_below false = lit< tt
-
-byte_one : (b : Bool) → bool_byte b ≡ one b
+-- a bit, as the code turns it into a number
+pub byte_one : (b : Bool) → bool_byte b ≡ one b
 byte_one true = refl
 byte_one false = refl
 
 -- a bit, shifted to place j, fits 16 bits
-shifted_bit : (b : Bool) (j : ℕ) → j < 8 → bool_byte b * 2 ^ j % 65536 ≡ bool_byte b * 2 ^ j
-shifted_bit b j h =
+shifted_bit : (b : Bool) (n j : ℕ) → n ≡ one b → j < 8 → n * 2 ^ j % 65536 ≡ n * 2 ^ j
+shifted_bit b n j e h =
     let p = pow_below j 8 h in
-    let l : bool_byte b * 2 ^ j < 65536 = go b p in
+    let l : n * 2 ^ j < 65536 = go b p e in
     mod-eq_of_lt l
   where
-    go : (b : Bool) → 2 ^ j < 256 → bool_byte b * 2 ^ j < 65536
-    go true p = omega arith
-    go false p = omega arith
+    go : (b : Bool) → 2 ^ j < 256 → n ≡ one b → n * 2 ^ j < 65536
+    go true p e = rw e (omega arith)
+    go false p e = rw e (omega arith)
 
 -- one more decision bit
-pub acc_below : (acc j : ℕ) (b : Bool) → j < 8 → acc < 2 ^ j → acc + bool_byte b * 2 ^ j % 65536 < 2 ^ (j + 1)
-acc_below acc j b h l = rw (shifted_bit b j h, add-one j) (go b)
+pub acc_below : (acc j : ℕ) (b : Bool) (n : ℕ) → n ≡ one b → j < 8 → acc < 2 ^ j → acc + n * 2 ^ j % 65536 < 2 ^ (j + 1)
+acc_below acc j b n e h l = rw (shifted_bit b n j e h, add-one j) (go b e)
   where
-    go : (b : Bool) → acc + bool_byte b * 2 ^ j < 2 ^ suc j
-    go true = let p = pow-suc 2 j in omega arith
-    go false = let p = pow-suc 2 j in omega arith
+    go : (b : Bool) → n ≡ one b → acc + n * 2 ^ j < 2 ^ suc j
+    go true e = let p = pow-suc 2 j in rw e (omega arith)
+    go false e = let p = pow-suc 2 j in rw e (omega arith)
+
+one_below : (b : Bool) → one b < 2
+one_below true = lit< tt
+one_below false = lit< tt
 
 -- one turn: state s takes its candidate, where those taken before are kept
 module _ (metrics costs next after : List ℕ) (acc j : ℕ) (place : ℕ → ℕ) (h : j < 8) (l : acc < 2 ^ j)
     (taken : (t : ℕ) → t < j → Taken metrics costs next acc t (place t))
     (kept : (t : ℕ) → t < j → get_or after (place t) 0 ≡ get_or next (place t) 0)
-    (x z o : ℕ) (b : Bool) (new : get_or after (place j) 0 ≡ x) (is : x ≡ cond (ltb o z) o z) (which : b ≡ ltb o z)
+    (x z o : ℕ) (b : Bool) (n : ℕ) (bit : n ≡ one b) (new : get_or after (place j) 0 ≡ x) (is : x ≡ cond (ltb o z) o z) (which : b ≡ ltb o z)
     (zeros : candidate metrics costs (place j) 0 ≡ z) (ones : candidate metrics costs (place j) 1 ≡ o) where
-  pub taken_more : (t : ℕ) → t < j + 1 → Taken metrics costs after (acc + bool_byte b * 2 ^ j % 65536) t (place t)
-  taken_more t g = ⊎_elim old (λ e. let q : j ≡ t = omega arith in subst (λ n. Taken metrics costs after (acc + bool_byte b * 2 ^ j % 65536) n (place n)) q here) (cases_lt t j)
+  pub taken_more : (t : ℕ) → t < j + 1 → Taken metrics costs after (acc + n * 2 ^ j % 65536) t (place t)
+  taken_more t g = ⊎_elim old (λ e. let q : j ≡ t = omega arith in subst (λ k. Taken metrics costs after (acc + n * 2 ^ j % 65536) k (place k)) q here) (cases_lt t j)
     where
-      sum : acc + bool_byte b * 2 ^ j % 65536 ≡ acc + bool_byte b * 2 ^ j
-      sum = ap (λ n. acc + n) (shifted_bit b j h)
+      sum : acc + n * 2 ^ j % 65536 ≡ acc + n * 2 ^ j
+      sum = ap (λ k. acc + k) (shifted_bit b n j bit h)
 
-      old : t < j → Taken metrics costs after (acc + bool_byte b * 2 ^ j % 65536) t (place t)
-      old p = (kept t p ∙ (taken t p).0, ap (λ n. n / 2 ^ t % 2) sum ∙ (bit_kept acc (bool_byte b) t j p ∙ (taken t p).1))
+      old : t < j → Taken metrics costs after (acc + n * 2 ^ j % 65536) t (place t)
+      old p = (kept t p ∙ (taken t p).0, ap (λ k. k / 2 ^ t % 2) sum ∙ (bit_kept acc n t j p ∙ (taken t p).1))
 
       test : ltb o z ≡ ltb (candidate metrics costs (place j) 1) (candidate metrics costs (place j) 0)
       test = cc
 
-      here : Taken metrics costs after (acc + bool_byte b * 2 ^ j % 65536) j (place j)
-      here = (new ∙ (is ∙ cc), ap (λ n. n / 2 ^ j % 2) sum ∙ (bit_new acc (bool_byte b) j l (byte_below b) ∙ (byte_one b ∙ ap one (which ∙ test))))
+      here : Taken metrics costs after (acc + n * 2 ^ j % 65536) j (place j)
+      here = (new ∙ (is ∙ cc), ap (λ k. k / 2 ^ j % 2) sum ∙ (bit_new acc n j l (subst (λ k. k < 2) (sym bit) (one_below b)) ∙ (bit ∙ ap one (which ∙ test))))
 
 -- one turn of the step: both states
 pub turn : (metrics costs next : List ℕ) (low high j q : ℕ) → j < 8 → q ≡ get_or labels j 0 → low < 2 ^ j → high < 2 ^ j → length next ≡ 16
     → ((t : ℕ) → t < j → Taken metrics costs next low t t) → ((t : ℕ) → t < j → Taken metrics costs next high t (t + 8))
-    → (x y : ℕ) (b c : Bool)
+    → (x y : ℕ) (b c : Bool) (m n : ℕ)
     → x ≡ cond (ltb (get_or metrics (2 * j + 1) 0 + get_or costs (15 - q) 0) (get_or metrics (2 * j) 0 + get_or costs q 0)) (get_or metrics (2 * j + 1) 0 + get_or costs (15 - q) 0) (get_or metrics (2 * j) 0 + get_or costs q 0)
     → b ≡ ltb (get_or metrics (2 * j + 1) 0 + get_or costs (15 - q) 0) (get_or metrics (2 * j) 0 + get_or costs q 0)
     → y ≡ cond (ltb (get_or metrics (2 * j + 1) 0 + get_or costs q 0) (get_or metrics (2 * j) 0 + get_or costs (15 - q) 0)) (get_or metrics (2 * j + 1) 0 + get_or costs q 0) (get_or metrics (2 * j) 0 + get_or costs (15 - q) 0)
     → c ≡ ltb (get_or metrics (2 * j + 1) 0 + get_or costs q 0) (get_or metrics (2 * j) 0 + get_or costs (15 - q) 0)
-    → ((t : ℕ) → t < j + 1 → Taken metrics costs (set (set next j x) (j + 8) y) (low + bool_byte b * 2 ^ j % 65536) t t)
-    × ((t : ℕ) → t < j + 1 → Taken metrics costs (set (set next j x) (j + 8) y) (high + bool_byte c * 2 ^ j % 65536) t (t + 8))
-turn metrics costs next low high j q h is ll lh len lows highs x y b c ix ib iy ic = (
+    → m ≡ one b → n ≡ one c
+    → ((t : ℕ) → t < j + 1 → Taken metrics costs (set (set next j x) (j + 8) y) (low + m * 2 ^ j % 65536) t t)
+    × ((t : ℕ) → t < j + 1 → Taken metrics costs (set (set next j x) (j + 8) y) (high + n * 2 ^ j % 65536) t (t + 8))
+turn metrics costs next low high j q h is ll lh len lows highs x y b c m n ix ib iy ic im in_ = (
   taken_more metrics costs next (set (set next j x) (j + 8) y) low j (λ t. t) h ll lows
       (λ t p. get_or-set_other (set next j x) (j + 8) t y 0 (omega arith) ∙ get_or-set_other next j t x 0 (omega arith))
-      x _ _ b
+      x _ _ b m im
       (get_or-set_other (set next j x) (j + 8) j y 0 (omega arith) ∙ get_or-set_same next j x 0 (omega arith))
       ix ib (low_zero metrics costs j h ∙ ap (λ n. get_or metrics (2 * j) 0 + get_or costs n 0) (sym is)) (low_one metrics costs j h ∙ ap (λ n. get_or metrics (2 * j + 1) 0 + get_or costs (15 - n) 0) (sym is)),
   taken_more metrics costs next (set (set next j x) (j + 8) y) high j (λ t. t + 8) h lh highs
       (λ t p. get_or-set_other (set next j x) (j + 8) (t + 8) y 0 (omega arith) ∙ get_or-set_other next j (t + 8) x 0 (omega arith))
-      y _ _ c
+      y _ _ c n in_
       (get_or-set_same (set next j x) (j + 8) y 0 (omega (arith, length-set next j x)))
       iy ic (high_zero metrics costs j h ∙ ap (λ n. get_or metrics (2 * j) 0 + get_or costs (15 - n) 0) (sym is)) (high_one metrics costs j h ∙ ap (λ n. get_or metrics (2 * j + 1) 0 + get_or costs n 0) (sym is)),
 )

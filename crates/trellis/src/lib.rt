@@ -1,15 +1,16 @@
 // The search for the text that lies nearest to what was heard, over any source of soft bits.
 #![tactic(auto)]
 
-ghost use Rattle.std.specs.Prelude.{◌≡◌, ℕ, ◌+◌, ◌*◌, ◌/◌, ◌%◌, ◌^◌, ◌<◌, ◌≤◌, Bool, true, false, ltb, List, [], ◌∷◌, length, take, is_ok, if◌then◌else◌, nat_lt, slice_index};
+ghost use Rattle.std.specs.Prelude.{◌≡◌, ℕ, ◌+◌, ◌*◌, ◌/◌, ◌%◌, ◌^◌, ◌<◌, ◌≤◌, Bool, true, false, ltb, List, [], ◌∷◌, length, take, OnOk, OnErr, if◌then◌else◌, nat_lt, slice_index};
 ghost use Rattle.refusal.specs.Answer.{after};
 ghost use Rattle.distance.specs.Nearest.{Nearest, distance};
 ghost use Rattle.distance.specs.Apart.{Heard, HeardWithin};
-ghost use Rattle.distance.specs.Trellis.{Best, Bounded, Chosen, back, four_back, label_cost, labels, octet, path_cost, traced};
+ghost use Rattle.distance.specs.Trellis.{Best, Bounded, Chosen, back, four_back, label_cost, octet, path_cost, traced};
 ghost use Rattle.trellis.specs.Search.{search_answer, steps_of};
 
 use code::check_length;
 use refusal::Refusal;
+use std::array;
 
 // A source of soft bits: what each coded bit costs, the greater the less it was heard.
 pub trait SoftBits {
@@ -22,24 +23,19 @@ pub trait SoftBits {
         ensures one { result.1 ≡ cost self.now i true };
 }
 
-// The state in which every text begins and, after its four zero bits, ends.
-const ZERO_STATE: usize = 0;
-
 // What a path costs that did not begin in the zero state: more than any text.
 const UNREACHED: u32 = 1 << 30;
 
 // The coded bits of the branch from state 2j with a new 0, the first counting 1. A new 1 inverts all four, and so does
 // a 1 that drops out.
-const BRANCH: [u8; 8] = [0, 14, 11, 5, 12, 2, 7, 9];
+const BRANCH: [usize; 8] = [0, 14, 11, 5, 12, 2, 7, 9];
 
 // What each combination of two coded bits costs, the first counting 1.
-fn pair_costs(a0: u16, a1: u16, b0: u16, b1: u16) -> [u32; 4]
-    ensures { result ≡ (a0 + b0) ∷ (a1 + b0) ∷ (a0 + b1) ∷ (a1 + b1) ∷ [] }
+fn pair_costs(first: (u16, u16), second: (u16, u16)) -> [u32; 4]
+    ensures small { (i : ℕ) → slice_index result i < 2 ^ 17 }
+    ensures sums { result ≡ (first.0 + second.0) ∷ (first.1 + second.0) ∷ (first.0 + second.1) ∷ (first.1 + second.1) ∷ [] }
 {
-    let a0 = u32::from(a0);
-    let a1 = u32::from(a1);
-    let b0 = u32::from(b0);
-    let b1 = u32::from(b1);
+    let [a0, a1, b0, b1] = [first.0, first.1, second.0, second.1].map(u32::from);
     [a0 + b0, a1 + b0, a0 + b1, a1 + b1]
 }
 
@@ -49,30 +45,9 @@ fn label_costs<S: SoftBits>(source: &S, step: usize) -> [u32; 16]
     ensures priced { (q : ℕ) → q < 16 → slice_index result q ≡ label_cost (S.SoftBits.cost source.now) step q }
     ensures bounded { Bounded (S.SoftBits.cost source.now) step 65535 → Bounded (S.SoftBits.cost source.now) (step + 1) 65535 }
 {
-    let (a0, a1) = source.costs(4 * step);
-    let (b0, b1) = source.costs(4 * step + 1);
-    let (c0, c1) = source.costs(4 * step + 2);
-    let (d0, d1) = source.costs(4 * step + 3);
-    let [f0, f1, f2, f3] = pair_costs(a0, a1, b0, b1);
-    let [l0, l1, l2, l3] = pair_costs(c0, c1, d0, d1);
-    [
-        f0 + l0,
-        f1 + l0,
-        f2 + l0,
-        f3 + l0,
-        f0 + l1,
-        f1 + l1,
-        f2 + l1,
-        f3 + l1,
-        f0 + l2,
-        f1 + l2,
-        f2 + l2,
-        f3 + l2,
-        f0 + l3,
-        f1 + l3,
-        f2 + l3,
-        f3 + l3,
-    ]
+    let first = pair_costs(source.costs(4 * step), source.costs(4 * step + 1));
+    let last = pair_costs(source.costs(4 * step + 2), source.costs(4 * step + 3));
+    array::from_fn(|q| first[q % 4] + last[q / 4])
 }
 
 // The cheaper of two ways into a state, and whether it is the second; a tie goes to the first.
@@ -85,14 +60,6 @@ fn cheaper(first: u32, second: u32) -> (u32, bool)
     } else {
         (first, false)
     }
-}
-
-// The label of the branch from state 2j with a new 0.
-fn branch_label(j: usize) -> usize
-    requires { j < 8 }
-    ensures { result ≡ slice_index labels j }
-{
-    BRANCH[j] as usize
 }
 
 // What a step leaves: the metric of each state, and its decision bit.
@@ -110,30 +77,22 @@ fn advance(metrics: &[u32; 16], costs: &[u32; 16]) -> Step
     let mut next = [0; 16];
     let mut low = 0u16;
     let mut high = 0u16;
-    for j in 0..8 {
-        let label = branch_label(j);
-        let same = costs[label];
-        let inverted = costs[15 - label];
+    for (j, label) in BRANCH.iter().enumerate() {
+        let same = costs[*label];
+        let inverted = costs[15 - *label];
         let zero = metrics[2 * j];
         let one = metrics[2 * j + 1];
         let (to_zero, turned) = cheaper(zero + same, one + inverted);
         next[j] = to_zero;
-        low += (turned as u16) << j;
+        low += u16::from(turned) << j;
         let (to_one, turned) = cheaper(zero + inverted, one + same);
         next[j + 8] = to_one;
-        high += (turned as u16) << j;
+        high += u16::from(turned) << j;
     }
     Step {
         metrics: next,
         decisions: low + 256 * high,
     }
-}
-
-// What the best path into the zero state costs.
-fn into_zero_state(metrics: &[u32; 16]) -> u32
-    ensures { result ≡ slice_index metrics.now 0 }
-{
-    metrics[ZERO_STATE]
 }
 
 // The forward pass: writes the decisions of each step into `work`, and answers what the best path into the zero state
@@ -146,40 +105,53 @@ fn forward<S: SoftBits>(source: &S, work: &mut [u16]) -> u32
 {
     let mut metrics = [UNREACHED; 16];
     metrics[0] = 0;
-    for step in 0..work.len() {
+    for (step, place) in work.iter_mut().enumerate() {
         let costs = label_costs(source, step);
         let next = advance(&metrics, &costs);
-        work[step] = next.decisions;
+        *place = next.decisions;
         metrics = next.metrics;
     }
-    into_zero_state(&metrics)
+    metrics[State::ZERO.number]
 }
 
-// The state before `state`, by the decision bit that it has among those of its step.
-fn step_back(state: usize, decisions: u16) -> usize
-    requires { state < 16 }
-    ensures { result ≡ back state decisions }
-{
-    2 * (state % 8) + ((decisions >> state) % 2) as usize
+// A state of the coder: the last four bits as a number, the oldest counting 1.
+#[derive(Clone, Copy)]
+struct State {
+    number: usize,
+    ghost within: { number < 16 },
 }
 
-// The state before the four steps from `step` on.
-fn steps_back(work: &[u16], step: usize, state: usize) -> usize
-    requires { (step + 4 ≤ length work.now) × (state < 16) }
-    ensures { result ≡ four_back work.now step state }
-{
-    let state = step_back(state, work[step + 3]);
-    let state = step_back(state, work[step + 2]);
-    let state = step_back(state, work[step + 1]);
-    step_back(state, work[step])
+impl State {
+    // The state in which every text begins and, after its four zero bits, ends.
+    const ZERO: State = State { number: 0 };
+
+    // The state before, by the decision bit that this one has among those of its step.
+    fn before(self, decisions: u16) -> State
+        ensures { result.number ≡ back self.number decisions }
+    {
+        let state = self.number;
+        State {
+            number: 2 * (state % 8) + usize::from((decisions >> state) % 2),
+        }
+    }
+
+    // The state before the four steps from `step` on.
+    fn before_four(self, work: &[u16], step: usize) -> State
+        requires { step + 4 ≤ length work.now }
+        ensures { result.number ≡ four_back work.now step self.number }
+    {
+        work[step..step + 4]
+            .iter()
+            .rev()
+            .fold(self, |state, decisions| state.before(*decisions))
+    }
 }
 
 // The octet whose lower and upper four bits are two states.
-fn octet_of(low: usize, high: usize) -> u8
-    requires { (low < 16) × (high < 16) }
-    ensures { result ≡ low + 16 * high }
+fn octet_of(low: State, high: State) -> u8
+    ensures { result ≡ low.number + 16 * high.number }
 {
-    (low + 16 * high) as u8
+    (low.number + 16 * high.number) as u8
 }
 
 // The way back from the zero state: a state holds four bits of the text, so two of them make an octet.
@@ -187,16 +159,18 @@ fn trace_back(work: &[u16], text: &mut [u8])
     requires { length work.now ≡ 8 * length text.old + 4 }
     ensures { (i : ℕ) → i < length text.old → slice_index text.new i ≡ octet i (traced work.now (length work.now) 0) }
 {
-    let mut state = ZERO_STATE;
+    let mut state = State::ZERO;
+    // Over places: of what a reversed `iter_mut` wrote, a proof knows only the length.
     for i in (0..text.len()).rev() {
-        let high = steps_back(work, 8 * i + 8, state);
-        let low = steps_back(work, 8 * i + 4, high);
+        let high = state.before_four(work, 8 * i + 8);
+        let low = high.before_four(work, 8 * i + 4);
         text[i] = octet_of(low, high);
         state = low;
     }
 }
 
-// The search where the memory fits: both passes, over as many octets as `text` has places.
+// The search where the memory fits: both passes, over as many octets as `text` has places. The two stay apart, since
+// the first pass takes `work` alone and the caller lends them apart.
 fn search<S: SoftBits>(source: &S, text: &mut [u8], work: &mut [u16]) -> u32
     requires { (length text.old ≤ 240) × (length work.old ≡ 8 * length text.old + 4) }
     ensures nearest { Nearest (S.SoftBits.cost source.now) (length text.old) text.new }
@@ -226,10 +200,10 @@ pub fn nearest_text<S: SoftBits>(
 ) -> Result<u32, Refusal>
     ensures answer { result ≡ search_answer m (length text.old) (length work.old) (distance (S.SoftBits.cost source.now) (take m text.new)) }
     ensures memory { text.new ≡ after result (take m text.new) text.old }
-    ensures working { (length work.new ≡ length work.old) × (is_ok result ≡ false → work.new ≡ work.old) }
-    ensures nearest { is_ok result ≡ true → Nearest (S.SoftBits.cost source.now) m (take m text.new) }
-    ensures only { is_ok result ≡ true → (other : List ℕ) → Nearest (S.SoftBits.cost source.now) m other → take m text.new ≡ other }
-    ensures corrected { is_ok result ≡ true → (sent : List ℕ) (heard : ℕ → Heard) → HeardWithin 15 (S.SoftBits.cost source.now) m sent heard → take m text.new ≡ sent }
+    ensures working { (length work.new ≡ length work.old) × OnErr result (work.new ≡ work.old) }
+    ensures nearest { OnOk result (Nearest (S.SoftBits.cost source.now) m (take m text.new)) }
+    ensures only { OnOk result ((other : List ℕ) → Nearest (S.SoftBits.cost source.now) m other → take m text.new ≡ other) }
+    ensures corrected { OnOk result ((sent : List ℕ) (heard : ℕ → Heard) → HeardWithin 15 (S.SoftBits.cost source.now) m sent heard → take m text.new ≡ sent) }
 {
     check_length(m)?;
     let steps = steps_for(m);

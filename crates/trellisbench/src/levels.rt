@@ -6,17 +6,14 @@ use trellis::SoftBits;
 // 0 is a 0 at full strength, 254 a 1 at full strength, and 127 says nothing.
 pub const LOST: u8 = 127;
 
+const FULL_ZERO: u8 = 0;
+
+const FULL_ONE: u8 = 254;
+
 // The levels that were heard, a coded bit after the other.
 #[derive(Drop)]
 pub struct Levels<'a> {
     pub levels: &'a [u8],
-}
-
-// The level of coded bit i, where one was heard.
-fn level_at(levels: &[u8], i: usize) -> u8
-    ensures { result ≡ slice_index_or levels.now i 127 }
-{
-    if i < levels.len() { levels[i] } else { LOST }
 }
 
 // A coded bit costs how far its level is from the bit's full strength.
@@ -24,8 +21,8 @@ impl SoftBits for Levels<'_> {
     ghost cost = { λ s i b. (if b then 254 - slice_index_or s.levels.now i 127 else slice_index_or s.levels.now i 127) };
 
     fn costs(&self, i: usize) -> (u16, u16) {
-        let level = u16::from(level_at(self.levels, i));
-        (level, 254u16.saturating_sub(level))
+        let level = self.levels.get(i).copied().unwrap_or(LOST);
+        (u16::from(level), u16::from(inverted(level)))
     }
 }
 
@@ -33,5 +30,12 @@ impl SoftBits for Levels<'_> {
 pub fn full(bit: bool) -> u8
     ensures { result ≡ (if bit then 254 else 0) }
 {
-    if bit { 254 } else { 0 }
+    if bit { FULL_ONE } else { FULL_ZERO }
+}
+
+// The level that says as much the other way, which is also how far a level is from a 1 at full strength.
+pub fn inverted(level: u8) -> u8
+    ensures { result ≡ 254 - level }
+{
+    FULL_ONE.saturating_sub(level)
 }

@@ -7,18 +7,16 @@ mod levels;
 mod trials;
 
 use anyhow::anyhow;
-use code::encode;
-use levels::{Levels, full};
+use code::{LONGEST_TEXT, encode};
+use levels::{LOST, Levels, full};
 use refusal::Refusal;
-use std::env;
 use std::time::Instant;
+use std::{array, env};
 use trellis::nearest_text;
 
-const OCTETS: usize = 240;
+const CODED_BITS: usize = 32 * LONGEST_TEXT + 16;
 
-const CODED_BITS: usize = 7_696;
-
-const STEPS: usize = 1_924;
+const STEPS: usize = 8 * LONGEST_TEXT + 4;
 
 // The octet at i of the text that is searched for.
 fn octet(i: usize) -> u8 {
@@ -28,7 +26,7 @@ fn octet(i: usize) -> u8 {
 // The level of coded bit i: every fifth is weak, every ninth lost, the others are at full strength.
 fn level(bit: bool, i: usize) -> u8 {
     if i % 9 == 0 {
-        levels::LOST
+        LOST
     } else if i % 5 == 0 {
         if bit { 200 } else { 54 }
     } else {
@@ -36,60 +34,67 @@ fn level(bit: bool, i: usize) -> u8 {
     }
 }
 
-// Fills in the levels at which the text is heard.
-fn hear(heard: &mut [u8]) -> Result<(), Refusal> {
-    let mut sent = [0; OCTETS];
-    for (i, place) in sent.iter_mut().enumerate() {
-        *place = octet(i);
-    }
-    let mut bits = [false; CODED_BITS];
-    encode(&sent, &mut bits)?;
-    for (i, (place, bit)) in heard.iter_mut().zip(bits.iter()).enumerate() {
-        *place = level(*bit, i);
-    }
-    Ok(())
+// A search: the levels that were heard, the text found in them, and the memory that it works in.
+#[derive(Drop)]
+struct Search {
+    heard: [u8; CODED_BITS],
+    text: [u8; LONGEST_TEXT],
+    work: [u16; STEPS],
 }
 
-// Searches again and again, with one level a little changed each time.
-fn repeat(rounds: u32, heard: &mut [u8], text: &mut [u8], work: &mut [u16]) -> Result<(), Refusal> {
-    for round in 0..rounds {
-        if let Some(level) = heard.get_mut(round as usize % CODED_BITS) {
-            *level ^= 1;
-        }
-        let _ = nearest_text(&Levels { levels: heard }, OCTETS, text, work)?;
+impl Search {
+    // The search before its first run, with the text heard.
+    fn new() -> Result<Search, Refusal> {
+        let sent: [u8; LONGEST_TEXT] = array::from_fn(octet);
+        let mut bits = [false; CODED_BITS];
+        encode(&sent, &mut bits)?;
+        Ok(Search {
+            heard: array::from_fn(|i| level(bits[i], i)),
+            text: [0; LONGEST_TEXT],
+            work: [0; STEPS],
+        })
     }
-    Ok(())
+
+    // Searches once, and answers the distance.
+    fn run(&mut self) -> Result<u32, Refusal> {
+        let levels = Levels {
+            levels: &self.heard,
+        };
+        nearest_text(&levels, LONGEST_TEXT, &mut self.text, &mut self.work)
+    }
+
+    // Searches again and again, with one level a little changed each time.
+    fn repeat(&mut self, rounds: u32) -> Result<(), Refusal> {
+        for round in 0..rounds {
+            self.heard[round as usize % CODED_BITS] ^= 1;
+            self.run()?;
+        }
+        Ok(())
+    }
+}
+
+fn refused(refusal: Refusal) -> anyhow::Error {
+    anyhow!("{refusal}")
 }
 
 // What a run says: the distance and the text found, or how long a bit takes.
-fn run(rt: &HostRuntime, rounds: u32) -> anyhow::Result<Result<(), Refusal>> {
-    let mut heard = [0; CODED_BITS];
-    let mut text = [0; OCTETS];
-    let mut work = [0; STEPS];
-    if let Err(refusal) = hear(&mut heard) {
-        return Ok(Err(refusal));
-    }
+fn report(rt: &HostRuntime, rounds: u32) -> anyhow::Result<()> {
+    let mut search = Search::new().map_err(refused)?;
     let start = Instant::now(rt)?;
-    if let Err(refusal) = repeat(rounds, &mut heard, &mut text, &mut work) {
-        return Ok(Err(refusal));
-    }
+    search.repeat(rounds).map_err(refused)?;
     let nanos = start.elapsed(rt)?.as_nanos();
-    let bits = u128::from(rounds) * 8 * OCTETS as u128;
+    let bits = u128::from(rounds) * 8 * LONGEST_TEXT as u128;
     if bits > 0 {
         println!(rt; "{} ns per text bit", nanos / bits)?;
-        return Ok(Ok(()));
+        return Ok(());
     }
-    match nearest_text(&Levels { levels: &heard }, OCTETS, &mut text, &mut work) {
-        Err(refusal) => Ok(Err(refusal)),
-        Ok(distance) => {
-            println!(rt; "distance {distance}")?;
-            for octet in text {
-                print!(rt; "{octet:02X}")?;
-            }
-            println!(rt)?;
-            Ok(Ok(()))
-        }
+    let distance = search.run().map_err(refused)?;
+    println!(rt; "distance {distance}")?;
+    for octet in search.text {
+        print!(rt; "{octet:02X}")?;
     }
+    println!(rt)?;
+    Ok(())
 }
 
 fn main(rt: HostRuntime) -> anyhow::Result<()> {
@@ -97,8 +102,5 @@ fn main(rt: HostRuntime) -> anyhow::Result<()> {
         Some(word) => word.as_str().parse::<u32>()?,
         None => 0,
     };
-    match run(&rt, rounds)? {
-        Ok(()) => Ok(()),
-        Err(refusal) => Err(anyhow!("{}", refusal.sentence())),
-    }
+    report(&rt, rounds)
 }

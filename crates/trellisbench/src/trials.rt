@@ -1,8 +1,9 @@
 // Trials of the search: all strings of one octet scored by the plain sum, long texts with as much noise as is corrected,
 // the least noise that goes astray, and the refusals in their order.
-use crate::levels::{LOST, Levels, full};
+use crate::levels::{LOST, Levels, full, inverted};
 use code::encode;
 use refusal::Refusal;
+use std::array;
 use std::test::Fail;
 use trellis::nearest_text;
 
@@ -29,11 +30,7 @@ fn scored(octet: u8, levels: &[u8; 48]) -> u32 {
     let _ = encode(&[octet], &mut bits);
     let mut sum = 0u32;
     for (bit, level) in bits.iter().zip(levels.iter()) {
-        let cost = if *bit {
-            254u8.saturating_sub(*level)
-        } else {
-            *level
-        };
+        let cost = if *bit { inverted(*level) } else { *level };
         sum = sum.wrapping_add(u32::from(cost));
     }
     sum
@@ -56,7 +53,7 @@ fn spoil(levels: &mut [u8], places: &[usize], wrong: usize, lost: usize) {
     for (n, place) in places.iter().enumerate() {
         if let Some(level) = levels.get_mut(*place) {
             if n < wrong {
-                *level = 254u8.saturating_sub(*level);
+                *level = inverted(*level);
             } else if n - wrong < lost {
                 *level = LOST;
             }
@@ -93,22 +90,13 @@ const SPREADS: [(usize, usize); 5] = [(0, 1), (3_001, 2), (7_681, 1), (5, 511), 
 
 #[test]
 fn corrected_noise(rt: HostRuntime) {
-    let mut sent = [0; 240];
-    for (i, octet) in sent.iter_mut().enumerate() {
-        *octet = (i.wrapping_mul(151) % 256) as u8;
-    }
+    let sent: [u8; 240] = array::from_fn(|i| (i.wrapping_mul(151) % 256) as u8);
     let mut bits = [false; 7_696];
     assert_eq!(rt; encode(&sent, &mut bits), Ok(7_696));
     for (wrong, lost, distance) in CORRECTED {
         for (first, apart) in SPREADS {
-            let mut levels = [0; 7_696];
-            for (level, bit) in levels.iter_mut().zip(bits.iter()) {
-                *level = full(*bit);
-            }
-            let mut places = [0; 15];
-            for (n, place) in places.iter_mut().enumerate() {
-                *place = apart.wrapping_mul(n).wrapping_add(first);
-            }
+            let mut levels = bits.map(full);
+            let places: [usize; 15] = array::from_fn(|n| apart.wrapping_mul(n).wrapping_add(first));
             spoil(&mut levels, &places, wrong, lost);
             let mut text = [0xA5; 240];
             let mut work = [0xFFFF; 1_924];
@@ -140,10 +128,7 @@ fn least_noise_that_goes_astray(rt: HostRuntime) {
     for (sent, wrong, lost, found) in ASTRAY {
         let mut bits = [false; 48];
         assert_eq!(rt; encode(&[sent], &mut bits), Ok(48));
-        let mut levels = [0; 48];
-        for (level, bit) in levels.iter_mut().zip(bits.iter()) {
-            *level = full(*bit);
-        }
+        let mut levels = bits.map(full);
         spoil(&mut levels, &APART, wrong, lost);
         let mut text = [0xA5];
         let mut work = [0xFFFF; 12];
@@ -169,12 +154,14 @@ fn refusals_in_order(rt: HostRuntime) -> Result<(), Fail> {
         let mut work = vec![in rt.alloc(); 0xFFFFu16; work_places]?;
         let answer = nearest_text(&Levels { levels: &[] }, m, &mut text, &mut work);
         assert_eq!(rt; answer, Err(refusal));
-        for octet in text.iter() {
-            assert_eq!(rt; *octet, 0xA5, "a refusal wrote text");
-        }
-        for number in work.iter() {
-            assert_eq!(rt; *number, 0xFFFF, "a refusal wrote working memory");
-        }
+        assert!(rt;
+            text.iter().all(|octet| *octet == 0xA5),
+            "a refusal wrote text"
+        );
+        assert!(rt;
+            work.iter().all(|number| *number == 0xFFFF),
+            "a refusal wrote working memory"
+        );
     }
     Ok(())
 }

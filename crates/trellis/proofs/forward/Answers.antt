@@ -1,5 +1,5 @@
 -- The survivors before the first step, after each, and after the last.
-use Rattle.std.proofs.Common.{◌≡◌, ◌^◌, ◌∷◌, length, set, replicate, sym, ◌∙◌, subst, add-one, arith, lit<, get_or-set_other, get_or-set_same}
+use Rattle.std.proofs.Common.{◌≡◌, ◌^◌, ◌∷◌, length, set, replicate, sym, subst, add-one, arith, lit<, get_or-set_other, get_or-set_same}
 use Rattle.distance.proofs.Reading.{label_cost_small, metric_small}
 use Rattle.distance.proofs.Traces.{begin_metrics, begins, step}
 use Rattle.distance.specs.Trellis.{Bounded, Survivors}
@@ -38,4 +38,4 @@ returns g c =
     let cost = g.S.SoftBits.cost c.args.source.now in
     let e : c.loop-step.step ≡ length c.args.work.now = omega arith in
     let r = subst (λ n. Survivors cost n c.loop-step.work c.loop-step.metrics) e c.loop-step.invariant.0 0 (lit< tt) in
-    record { best = r.0; metric = c.into_zero_state.ensures ∙ r.1; bounded = subst (λ n. Bounded cost n 65535) e c.loop-step.invariant.1 }
+    record { best = r.0; metric = r.1; bounded = subst (λ n. Bounded cost n 65535) e c.loop-step.invariant.1 }

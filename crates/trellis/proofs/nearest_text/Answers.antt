@@ -1,37 +1,22 @@
--- The text found stands in the first places, and the rest of the memory is as it was.
-use Rattle.std.proofs.Common.{◌≡◌, ◌+◌, ◌-◌, ◌*◌, ◌||◌, ltb, ◌++◌, length, take, drop, Ok, sym, ap, ◌∙◌, subst, true≢false, arith, length-take, rules}
+-- The text found stands in the first places.
+use Rattle.std.proofs.Common.{◌≡◌, ℕ, ◌-◌, Bool, List, ◌++◌, length, take, drop, sym, ◌∙◌, subst, arith, length-take}
 use Rattle.distance.proofs.Reading.{corrected, nearest_once}
-use Rattle.distance.specs.Nearest.{Nearest, distance}
-use Rattle.refusal.proofs.Checks.{past, text_past}
-use Rattle.refusal.specs.Answer.{refused_when}
-use Rattle.refusal.specs.declared.Refusal.TheVariants.{MemoryTooShort}
+use Rattle.distance.specs.Nearest.{Nearest}
 use Rattle.std.proofs.lemmas.List.{take_at}
-use Rattle.std.proofs.lemmas.Bool.{le-ltb, or_from}
 use Rattle.trellis.proofs.nearest_text.Goals as goal
 
-pub returns : goal.returns
-returns g c =
-    let cost = g.S.SoftBits.cost c.args.source.now in
-    let m = c.args.m in
-    let text = c.args.text.now in
-    let work = c.args.work.now in
-    let found = c.search.new.text in
-    let all = found ++ drop (m - 0) text in
-    let part : length (take (m - 0) text) ≡ m = simp length-take (omega arith) in
-    let size : length found ≡ m = c.search.auto.text ∙ part in
-    let front : take m all ≡ found = take_at found (drop (m - 0) text) m size in
-    let past-it : m - 0 ≡ length found = omega arith in
-    let near : Nearest cost m (take m all) =
-    subst (λ t. Nearest cost m t) (sym front) (subst (λ n. Nearest cost n found) part c.search.ensures.nearest) in
-    let short = ltb (length text) m || ltb (length work) (8 * m + 4) in
-    let answer = Ok (distance cost (take m all)) in
-    let told = text_past m tt _ (refused_when short MemoryTooShort answer) c.in_ok-check_length.ensures in
-    let room = or_from (ltb (length text) m) (ltb (length work) (8 * m + 4)) (le-ltb (length text) m (omega arith)) (le-ltb (length work) (8 * m + 4) (omega arith)) in
-    record {
-      answer = ap Ok (c.search.ensures.value ∙ ap (distance cost) (sym front)) ∙ (sym (past short MemoryTooShort answer room) ∙ sym told.0);
-      memory = ap (λ n. found ++ drop n text) past-it ∙ ap (λ t. t ++ drop (length t) text) (sym front);
-      working = (search rules, λ e. absurd (true≢false e));
-      nearest = λ _. near;
-      only = λ _ other o. nearest_once cost m (take m all) other near o;
-      corrected = λ _ sent heard h. corrected cost m sent heard h (take m all) near;
-    }
+in_front : (cost : ℕ → Bool → ℕ) (m n : ℕ) (found rest : List ℕ) → length found ≡ n → n ≡ m → Nearest cost n found → Nearest cost m (take m (found ++ rest))
+in_front cost m n found rest size same near =
+    subst (λ t. Nearest cost m t) (sym (take_at found rest m (size ∙ same))) (subst (λ k. Nearest cost k found) same near)
+
+pub returns-clause-only : goal.returns-clause-only
+returns-clause-only g c =
+    let part : length (take (c.args.m - 0) c.args.text.now) ≡ c.args.m = simp length-take (omega arith) in
+    let near = in_front _ _ _ c.search.new.text (drop (c.args.m - 0) c.args.text.now) c.search.auto.text part c.search.ensures.nearest in
+    λ other o. nearest_once _ _ _ other near o
+
+pub returns-clause-corrected : goal.returns-clause-corrected
+returns-clause-corrected g c =
+    let part : length (take (c.args.m - 0) c.args.text.now) ≡ c.args.m = simp length-take (omega arith) in
+    let near = in_front _ _ _ c.search.new.text (drop (c.args.m - 0) c.args.text.now) c.search.auto.text part c.search.ensures.nearest in
+    λ sent heard h. corrected _ _ sent heard h _ near

@@ -11,18 +11,18 @@ loop-i-preserved c =
     let path = traced work (length work) 0 in
     let i = c.loop-i.i in
     let o = c.loop-i.i - 1 in
-    let high = c.steps_back-high.result in
-    let low = c.steps_back-low.result in
+    let high = c.before_four-high.result.number in
+    let low = c.before_four-low.result.number in
     let next : i ≡ suc o = omega arith in
     let agree = c.loop-i.invariant.1 in
     let text = c.loop-i.text in
     let found = c.octet_of.result in (
-      low_below work path i o c.loop-i.state high low next agree c.steps_back-high.ensures c.steps_back-low.ensures,
-      octet_agree work path i o c.loop-i.state high low next agree c.steps_back-high.ensures c.steps_back-low.ensures,
+      low_below work path i o c.loop-i.state.0 high low next agree c.before_four-high.ensures c.before_four-low.ensures,
+      octet_agree work path i o c.loop-i.state.0 high low next agree c.before_four-high.ensures c.before_four-low.ensures,
       λ j p l. ⊎_elim
           (λ e. subst (λ n. get_or (set text o found) n 0 ≡ octet n path) (sym e)
           (get_or-set_same text o found 0 (omega arith)
-          ∙ (c.octet_of.ensures ∙ octet_back work path i o c.loop-i.state high low next agree c.steps_back-high.ensures c.steps_back-low.ensures)))
+          ∙ (c.octet_of.ensures ∙ octet_back work path i o c.loop-i.state.0 high low next agree c.before_four-high.ensures c.before_four-low.ensures)))
           (λ ne. get_or-set_other text o j found 0 ne ∙ c.loop-i.invariant.2 j (omega arith) l)
           (cases_eq j o),
     )
