@@ -1,4 +1,6 @@
 // A text and what it becomes, layer by layer.
+ghost use Rattle.std.specs.Prelude.{◌≡◌, ◌/◌, vec_len};
+
 use refusal::Refusal;
 use sound::{HEADER, SAMPLE, write_wave};
 use stage::Stage;
@@ -47,7 +49,9 @@ impl Outgoing {
     }
 
     // How many frames of two elements the burst has.
-    pub fn frames(&self) -> usize {
+    pub fn frames(&self) -> usize
+        ensures { result ≡ vec_len self.now.burst / 2 }
+    {
         self.burst.len() / 2
     }
 }
