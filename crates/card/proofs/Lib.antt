@@ -1,4 +1,5 @@
 mod Fractions
 mod Pairs
+mod Ranges
 mod Rounding
 mod Shares

@@ -1,6 +1,5 @@
 -- The floats that the rules of card readings name, the two ranges, and the steps from levels to a value.
 -- `fin s m e` is m * 2 ^ e, negative where s is true; `binary32` is `f32`.
--- Assumes nothing.
 use Rattle.std.specs.Prelude.{◌≡◌, Bool, true, false, ◌&&◌, ℤ, pos, refl, Float}
 use Rattle.std.specs.Float.{fin, binary32}
 use Rattle.std.specs.Float.Ieee.{of_bits, neg, sub, div, mul, le, to_signed}

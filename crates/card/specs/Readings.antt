@@ -1,5 +1,4 @@
 -- Card readings: the pair of values that each gives, and what is promised of it.
--- Assumes nothing.
 use Rattle.std.specs.Prelude.{◌≡◌, Bool, true, cond, not, ◌&&◌, ℤ, pos, negsuc, neg_ℤ, ◌≤ℤ◌, Ok, Result, Float}
 use Rattle.std.specs.Float.Ieee.{neg, eq, lt}
 use Rattle.std.specs.Float.{float_max}

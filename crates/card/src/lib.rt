@@ -17,7 +17,7 @@ const LOUDEST: f32 = 32768.0;
 const FULL_STRENGTH: f32 = 127.0;
 
 // The levels of the four tones.
-#[derive(Clone, Copy)]
+#[derive(Clone, Copy, PartialEq, Debug)]
 pub struct Levels {
     pub hz400: f32,
     pub hz600: f32,
@@ -26,7 +26,7 @@ pub struct Levels {
 }
 
 // What the card says of one frame.
-#[derive(Clone, Copy)]
+#[derive(Clone, Copy, PartialEq, Debug)]
 pub enum Reading {
     // how loud each tone is
     Levels(Levels),
@@ -39,13 +39,13 @@ pub enum Reading {
 fn is_level(x: f32) -> bool
     ensures { result ≡ is_level x }
 {
-    0.0 <= x && x <= LOUDEST
+    (0.0..=LOUDEST).contains(&x)
 }
 
 fn is_balance(x: f32) -> bool
     ensures { result ≡ is_balance x }
 {
-    -1.0 <= x && x <= 1.0
+    (-1.0..=1.0).contains(&x)
 }
 
 // By how much one side is louder than the other, as a share of the greatest level.
@@ -55,38 +55,17 @@ fn share(ones: f32, zeros: f32, greatest: f32) -> f32
     (ones - zeros) / greatest
 }
 
-fn at_full_strength(part: f32) -> f32
-    ensures { result ≡ mul binary32 part full }
-{
-    part * FULL_STRENGTH
-}
-
-fn without_fraction(x: f32) -> i64
-    requires low { T (le (fin true 1 (pos 63)) x) }
-    requires high { T (lt x (fin false 1 (pos 63))) }
-    ensures { result ≡ to_signed 63 x }
-{
-    truncating_f32_to_i64(x)
-}
-
 // The value of a share. It fits without any clamping: 127 times a float from -1 to 1 rounds to at most 127 in size.
 fn strength(part: f32) -> i8
     requires { T (is_balance part) }
     ensures is { result ≡ strength_of part }
     ensures value { IsValue result }
 {
-    without_fraction(at_full_strength(part)) as i8
+    truncating_f32_to_i64(part * FULL_STRENGTH) as i8
 }
 
-fn balance_pair(first: f32, second: f32) -> (i8, i8)
-    requires { (T (is_balance first)) × (T (is_balance second)) }
-    ensures is { result ≡ (strength_of first, strength_of second) }
-    ensures promised { Promised (Reading.Balance first second) result }
-{
-    (strength(first), strength(second))
-}
-
-// The greater of two floats: the first of two that are equal, and the other of one that is no number.
+// The greater of two floats: the first of two that are equal, and the other of one that is no number. `f32::max` may
+// answer either of two that are equal, as 0.0 and -0.0.
 fn greater(x: f32, y: f32) -> f32
     ensures { result ≡ float_max x y }
 {
@@ -103,48 +82,22 @@ impl Levels {
             && is_level(self.hz1000)
     }
 
-    // The louder of the two tones with a 1 in the first place.
-    fn first_one(&self) -> f32
-        ensures { result ≡ first_one self.now }
-    {
-        greater(self.hz800, self.hz1000)
-    }
-
-    fn first_zero(&self) -> f32
-        ensures { result ≡ first_zero self.now }
-    {
-        greater(self.hz400, self.hz600)
-    }
-
-    fn second_one(&self) -> f32
-        ensures { result ≡ second_one self.now }
-    {
-        greater(self.hz600, self.hz1000)
-    }
-
-    fn second_zero(&self) -> f32
-        ensures { result ≡ second_zero self.now }
-    {
-        greater(self.hz400, self.hz800)
-    }
-
-    fn greatest(&self) -> f32
-        ensures { result ≡ greatest_of self.now }
-    {
-        greater(self.first_zero(), self.first_one())
-    }
-
+    // For each element the louder tone for a 1 against the louder one for a 0, as a share of the loudest of all.
     fn pair(&self) -> (i8, i8)
         requires { T (in_range self.now) }
         ensures is { result ≡ levels_pair self.now }
         ensures promised { Promised (Reading.Levels self.now) result }
     {
-        let greatest = self.greatest();
+        let first_one = greater(self.hz800, self.hz1000);
+        let first_zero = greater(self.hz400, self.hz600);
+        let second_one = greater(self.hz600, self.hz1000);
+        let second_zero = greater(self.hz400, self.hz800);
+        let greatest = greater(first_zero, first_one);
         if greatest == 0.0 {
             return (0, 0);
         }
-        let first = share(self.first_one(), self.first_zero(), greatest);
-        let second = share(self.second_one(), self.second_zero(), greatest);
+        let first = share(first_one, first_zero, greatest);
+        let second = share(second_one, second_zero, greatest);
         (strength(first), strength(second))
     }
 }
@@ -158,7 +111,7 @@ impl Reading {
         match self {
             Reading::Levels(levels) if levels.in_range() => Ok(levels.pair()),
             Reading::Balance(first, second) if is_balance(first) && is_balance(second) => {
-                Ok(balance_pair(first, second))
+                Ok((strength(first), strength(second)))
             }
             Reading::Lost => Ok((0, 0)),
             _ => Err(Refusal::ReadingOutOfRange),

@@ -1,5 +1,4 @@
 -- A sound file: RIFF/WAVE, 8,000 samples a second, 16 bits, one channel.
--- Assumes nothing.
 use Rattle.std.specs.Prelude.{ℕ, ◌+◌, ◌*◌, ◌/◌, ◌%◌, min, List, [], ◌∷◌, ◌++◌, length, ℤ, pos, Ok, codes, Result, nat_lt, slice_index_or}
 use Rattle.std.specs.Int.{w16}
 use Rattle.std.proofs.Common.{of_z}

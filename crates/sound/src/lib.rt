@@ -12,27 +12,21 @@ use refusal::Refusal;
 // The most samples whose octets a header can tell.
 const MOST_TOLD: usize = 2_147_483_629;
 
-const HEADER: usize = 44;
+// How many octets a header has, and a sample.
+pub const HEADER: usize = 44;
+
+pub const SAMPLE: usize = 2;
 
 // The header before so many octets of samples.
-fn header(size: u32) -> [u8; 44]
+fn header(size: u32) -> [u8; HEADER]
     requires { size + 36 < 2 ^ 32 }
     ensures { result ≡ header_of size }
 {
-    let [r0, r1, r2, r3] = (size + 36).to_le_bytes();
-    let [d0, d1, d2, d3] = size.to_le_bytes();
-    [
-        b'R', b'I', b'F', b'F', r0, r1, r2, r3, b'W', b'A', b'V', b'E', b'f', b'm', b't', b' ', 16,
-        0, 0, 0, 1, 0, 1, 0, 0x40, 0x1f, 0, 0, 0x80, 0x3e, 0, 0, 2, 0, 16, 0, b'd', b'a', b't',
-        b'a', d0, d1, d2, d3,
-    ]
-}
-
-// A sample in two's complement, the lowest octet first.
-fn octets(sample: i16) -> [u8; 2]
-    ensures { result ≡ two_octets (of_z w16 sample) }
-{
-    sample.to_le_bytes()
+    let mut header =
+        *b"RIFF....WAVEfmt \x10\0\0\0\x01\0\x01\0\x40\x1f\0\0\x80\x3e\0\0\x02\0\x10\0data....";
+    header[4..8].copy_from_slice(&(size + 36).to_le_bytes());
+    header[40..].copy_from_slice(&size.to_le_bytes());
+    header
 }
 
 // Writes the sound file of the samples into the first places of `out` and answers its length.
@@ -41,15 +35,19 @@ pub fn write_wave(samples: &[i16], out: &mut [u8]) -> Result<usize, Refusal>
     ensures memory { out.new ≡ after result (wave_file samples.now) out.old }
 {
     let count = samples.len();
-    if out.len() < HEADER || (out.len() - HEADER) / 2 < count {
+    if out.len() < HEADER || (out.len() - HEADER) / SAMPLE < count {
         return Err(Refusal::MemoryTooShort);
     }
-    let header = header(2 * count.min(MOST_TOLD) as u32);
+    // The cast is proved to lose nothing, where `u32::try_from` would need an answer for what cannot be.
+    let told = count.min(MOST_TOLD) as u32;
+    let header = header(2 * told);
     out[0..HEADER].copy_from_slice(&header);
-    for i in 0..count {
-        out[HEADER + 2 * i..HEADER + 2 * i + 2].copy_from_slice(&octets(samples[i]));
+    // By its place, since a proof knows no more of what was written through `chunks_exact_mut` once it is over.
+    for (i, sample) in samples.iter().enumerate() {
+        let start = HEADER + SAMPLE * i;
+        out[start..start + SAMPLE].copy_from_slice(&sample.to_le_bytes());
     }
-    Ok(HEADER + 2 * count)
+    Ok(HEADER + SAMPLE * count)
 }
 
 #[cfg(test)]

@@ -1,1 +1,3 @@
+mod Made
+pub mod Pairs
 pub mod Period

@@ -1,4 +1,4 @@
--- The table of the period, checked by one computed test over its 40 entries. Assumes nothing.
+-- The table of the period, checked by one computed test over its 40 entries.
 use Rattle.std.proofs.Common.{◌≡◌, ℕ, ◌*◌, ◌/◌, ◌%◌, ◌<◌, map, get_or, ℤ, pos, ◌*ℤ◌, sym, refl, ap, ◌∙◌, zero-add, arith, w16, to_z, of_z}
 use Rattle.std.specs.List.{range_with_len}
 use Rattle.std.proofs.lemmas.Nat.{mod_below}

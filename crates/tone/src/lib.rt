@@ -8,6 +8,7 @@ ghost use Rattle.refusal.specs.declared.Refusal.TheVariants.{BadElements};
 ghost use Rattle.tone.specs.Tones.{hertz, tone_sample, tone_of, sample, samples, bad, play_answer};
 
 use refusal::Refusal;
+use std::array;
 
 // The tone of one frame.
 #[derive(Clone, Copy, PartialEq, Eq, Debug)]
@@ -26,7 +27,10 @@ const PERIOD: [i16; 40] = [
     -15576, -16176, -16376, -16176, -15576, -14592, -13248, -11576, -9624, -7432, -5064, -2560,
 ];
 
-// The mute among elements.
+// How many samples a frame of two elements sounds for.
+pub const FRAME: usize = 40;
+
+// The mute among elements, which are octets since the memory that callers lend holds octets: 0, 1 and this.
 const MUTE: u8 = 2;
 
 impl Tone {
@@ -60,7 +64,7 @@ impl Tone {
     fn stride(self) -> usize
         ensures { result ≡ hertz self / 200 }
     {
-        (self.frequency() / 200) as usize
+        usize::from(self.frequency() / 200)
     }
 
     // Its sample k, each frame starting at the period's start.
@@ -68,7 +72,14 @@ impl Tone {
         requires { k < 40 }
         ensures { result ≡ tone_sample self k }
     {
-        PERIOD[self.stride() * k % 40]
+        PERIOD[self.stride() * k % PERIOD.len()]
+    }
+
+    // The samples of its frame.
+    fn samples(self) -> [i16; FRAME]
+        ensures { result ≡ map (tone_sample self) (range_with_len 0 40) }
+    {
+        array::from_fn(|k| self.sample(k))
     }
 }
 
@@ -76,25 +87,10 @@ impl Tone {
 pub fn check_elements(elements: &[u8]) -> Result<(), Refusal>
     ensures { result ≡ refused_when (bad elements.now) BadElements (Ok tt) }
 {
-    if elements.len() % 2 == 1 {
+    if elements.len() % 2 == 1 || elements.iter().any(|element| *element > MUTE) {
         return Err(Refusal::BadElements);
     }
-    for element in elements {
-        if *element > MUTE {
-            return Err(Refusal::BadElements);
-        }
-    }
     Ok(())
-}
-
-// Writes the samples of a tone into the places of its frame.
-fn play_frame(tone: Tone, frame: &mut [i16])
-    requires { length frame.old ≡ 40 }
-    ensures { frame.new ≡ map (tone_sample tone) (range_with_len 0 40) }
-{
-    for k in 0..40 {
-        frame[k] = tone.sample(k);
-    }
 }
 
 // Writes the samples of the elements into the first places of `out` and answers how many there are.
@@ -103,15 +99,16 @@ pub fn play(elements: &[u8], out: &mut [i16]) -> Result<usize, Refusal>
     ensures memory { out.new ≡ after result (samples elements.now) out.old }
 {
     check_elements(elements)?;
-    let frames = elements.len() / 2;
-    if out.len() / 40 < frames {
+    let (pairs, _) = elements.as_chunks::<2>();
+    if out.len() / FRAME < pairs.len() {
         return Err(Refusal::MemoryTooShort);
     }
-    for frame in 0..frames {
-        let tone = Tone::of(elements[2 * frame], elements[2 * frame + 1]);
-        play_frame(tone, &mut out[40 * frame..40 * frame + 40]);
+    // By its place, since a proof knows no more of what was written through `chunks_exact_mut` once it is over.
+    for (frame, [first, second]) in pairs.iter().enumerate() {
+        let samples = Tone::of(*first, *second).samples();
+        out[FRAME * frame..FRAME * frame + FRAME].copy_from_slice(&samples);
     }
-    Ok(40 * frames)
+    Ok(FRAME * pairs.len())
 }
 
 #[cfg(test)]

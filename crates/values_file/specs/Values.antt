@@ -1,5 +1,4 @@
 -- The values file, as it is written: a line for the text's length, then a line a frame.
--- Assumes nothing.
 use Rattle.std.specs.Prelude.{ℕ, ◌+◌, ◌*◌, ◌/◌, ◌%◌, cond, List, [], ◌∷◌, ◌++◌, length, Ok, Result, ◌==◌, nat_lt, slice_index}
 use Rattle.std.specs.List.{range_with_len, flat_map}
 use Rattle.refusal.specs.declared.Refusal.{Refusal}

@@ -3,7 +3,7 @@
 
 ghost use Rattle.std.specs.Prelude.{◌≡◌, ◌<◌, length};
 ghost use Rattle.refusal.specs.Answer.{after};
-ghost use Rattle.values_file.specs.Values.{digit as digit_of, two_digits, value_octet, line_of, values_file, write_answer};
+ghost use Rattle.values_file.specs.Values.{digit as digit_of, two_digits, value_octet, first_line as line_for, line_of, values_file, write_answer};
 
 use code::check_length;
 use refusal::Refusal;
@@ -11,6 +11,11 @@ use tone::check_elements;
 
 // The most frame lines of a file.
 pub const MOST_FRAMES: usize = 16_384;
+
+// How many characters the first line has, and the line of a frame.
+pub const FIRST_LINE: usize = 3;
+
+pub const FRAME_LINE: usize = 5;
 
 // The character of a hexadecimal digit.
 fn digit(n: u8) -> u8
@@ -30,7 +35,7 @@ fn digits(octet: u8) -> [u8; 2]
     [digit(octet / 16), digit(octet % 16)]
 }
 
-// The full-strength value of an element, as an octet in two's complement.
+// The full-strength value of an element, as an octet in two's complement. Elements are lent as octets: 0, 1 and a mute.
 fn full_strength(element: u8) -> u8
     ensures { result ≡ value_octet element }
 {
@@ -41,8 +46,16 @@ fn full_strength(element: u8) -> u8
     }
 }
 
+// The first line, for a text of m octets.
+fn first_line(m: u8) -> [u8; FIRST_LINE]
+    ensures { result ≡ line_for m }
+{
+    let [a, b] = digits(m);
+    [a, b, b'\n']
+}
+
 // The line of a frame.
-fn frame_line(first: u8, second: u8) -> [u8; 5]
+fn frame_line(first: u8, second: u8) -> [u8; FRAME_LINE]
     ensures { result ≡ line_of first second }
 {
     let [a, b] = digits(full_strength(first));
@@ -58,19 +71,21 @@ pub fn write_values(m: usize, elements: &[u8], out: &mut [u8]) -> Result<usize, 
 {
     check_length(m)?;
     check_elements(elements)?;
-    let frames = elements.len() / 2;
-    if frames > MOST_FRAMES {
+    let (pairs, _) = elements.as_chunks::<2>();
+    if pairs.len() > MOST_FRAMES {
         return Err(Refusal::BadLine);
     }
-    let size = 3 + 5 * frames;
+    let size = FIRST_LINE + FRAME_LINE * pairs.len();
     if out.len() < size {
         return Err(Refusal::MemoryTooShort);
     }
-    let [a, b] = digits(m as u8);
-    out[0..3].copy_from_slice(&[a, b, b'\n']);
-    for i in 0..frames {
-        let line = frame_line(elements[2 * i], elements[2 * i + 1]);
-        out[3 + 5 * i..8 + 5 * i].copy_from_slice(&line);
+    // The cast is proved to lose nothing, where `u8::try_from` would need an answer for what cannot be.
+    out[0..FIRST_LINE].copy_from_slice(&first_line(m as u8));
+    // By its place, since a proof knows no more of what was written through `chunks_exact_mut` once it is over.
+    for (frame, [first, second]) in pairs.iter().enumerate() {
+        let start = FIRST_LINE + FRAME_LINE * frame;
+        let line = frame_line(*first, *second);
+        out[start..start + FRAME_LINE].copy_from_slice(&line);
     }
     Ok(size)
 }

@@ -9,80 +9,87 @@ use anyhow::anyhow;
 use code::LONGEST_TEXT;
 use outgoing::{Failure, Outgoing};
 use report::Report;
+use std::alloc::Global;
 use std::env;
 use std::io::{Read, Write};
+use std::str::FromStr;
+use thiserror::Error;
 
 const USAGE: &str = "usage: writeburst [values | sound] < TEXT";
 
 // What is written of a text.
-#[derive(Clone, Copy)]
+#[derive(Clone, Copy, PartialEq, Eq, Debug)]
 enum Output {
     Report,
     Values,
     Sound,
 }
 
-// What the arguments ask for, or nothing where they are not understood.
-fn asked(rt: &HostRuntime) -> anyhow::Result<Option<Output>> {
-    let mut arguments = env::args(rt)?.skip(1);
-    let output = match arguments.next() {
-        None => Some(Output::Report),
-        Some(word) => match word.as_str() {
-            "values" => Some(Output::Values),
-            "sound" => Some(Output::Sound),
-            _ => None,
-        },
-    };
-    if arguments.next().is_some() {
-        return Ok(None);
+// The arguments are not understood.
+#[derive(Debug, Drop, Error)]
+#[error("usage")]
+struct NotUnderstood;
+
+impl FromStr for Output {
+    type Err = NotUnderstood;
+
+    fn from_str(word: &str) -> Result<Output, NotUnderstood> {
+        match word {
+            "values" => Ok(Output::Values),
+            "sound" => Ok(Output::Sound),
+            _ => Err(NotUnderstood),
+        }
     }
-    Ok(output)
 }
 
-// Writes what is asked for of a text.
-fn write_out(
-    rt: &HostRuntime,
-    text: Vec<u8>,
-    output: Output,
-) -> anyhow::Result<Result<(), Failure>> {
-    let outgoing = match Outgoing::of(rt.alloc(), text) {
-        Ok(outgoing) => outgoing,
-        Err(failure) => return Ok(Err(failure)),
-    };
-    let file = match output {
-        Output::Report => {
-            print!(rt; "{}", Report(&outgoing))?;
-            return Ok(Ok(()));
-        }
-        Output::Values => outgoing.values(rt.alloc()),
-        Output::Sound => outgoing.sound(rt.alloc()),
-    };
-    match file {
-        Ok(file) => {
-            rt.stdout().write_all(&file)?;
-            Ok(Ok(()))
-        }
-        Err(failure) => Ok(Err(failure)),
+// What the first two arguments ask for.
+fn asked(first: Option<String>, second: Option<String>) -> Result<Output, NotUnderstood> {
+    match (first, second) {
+        (None, _) => Ok(Output::Report),
+        (Some(word), None) => word.parse(),
+        (Some(_), Some(_)) => Err(NotUnderstood),
+    }
+}
+
+// A text as it is asked for, before any of it is written.
+#[derive(Drop)]
+enum Prepared {
+    Report(Outgoing),
+    File(Vec<u8>),
+}
+
+fn prepare(heap: Global, text: Vec<u8>, output: Output) -> Result<Prepared, Failure> {
+    let outgoing = Outgoing::of(heap, text)?;
+    match output {
+        Output::Report => Ok(Prepared::Report(outgoing)),
+        Output::Values => Ok(Prepared::File(outgoing.values(heap)?)),
+        Output::Sound => Ok(Prepared::File(outgoing.sound(heap)?)),
     }
 }
 
 fn main(rt: HostRuntime) -> anyhow::Result<()> {
-    let Some(output) = asked(&rt)? else {
-        println!(rt; "{USAGE}")?;
-        return Err(anyhow!("usage"));
+    let mut arguments = env::args(&rt)?.skip(1);
+    let output = match asked(arguments.next(), arguments.next()) {
+        Ok(output) => output,
+        Err(misuse) => {
+            println!(rt; "{USAGE}")?;
+            return Err(misuse.into());
+        }
     };
     let mut text = Vec::new(rt.alloc());
-    // One octet more than a text has is enough to refuse it.
+    // One octet more than a text has is enough to refuse it. No `From` leads from a usize to a u64.
     rt.stdin()
         .take(LONGEST_TEXT as u64 + 1)
         .read_to_end(&mut text)?;
-    match write_out(&rt, text, output)? {
-        Ok(()) => Ok(()),
+    match prepare(rt.alloc(), text, output) {
+        Ok(Prepared::Report(outgoing)) => print!(rt; "{}", Report(&outgoing))?,
+        Ok(Prepared::File(octets)) => rt.stdout().write_all(&octets)?,
         Err(failure) => {
             println!(rt; "{failure}")?;
-            Err(anyhow!("refused"))
+            return Err(anyhow!("refused"));
         }
     }
+    Ok(())
 }
 
 #[cfg(test)]

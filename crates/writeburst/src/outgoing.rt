@@ -1,12 +1,14 @@
 // A text and what it becomes, layer by layer.
+ghost use Rattle.std.specs.Prelude.{◌≡◌, ◌/◌, vec_len};
+
 use refusal::Refusal;
+use sound::{HEADER, SAMPLE, write_wave};
 use stage::Stage;
 use std::alloc::{AllocError, Global};
-use std::fmt;
+use thiserror::Error;
+use tone::FRAME;
 use usual::usual_pile;
-
-// How many samples a frame of two elements sounds for.
-const FRAME: usize = 40;
+use values_file::{FIRST_LINE, FRAME_LINE, write_values};
 
 #[derive(Drop)]
 pub struct Outgoing {
@@ -30,51 +32,36 @@ impl Outgoing {
 
     // The values file of the burst at full strength.
     pub fn values(&self, heap: Global) -> Result<Vec<u8>, Failure> {
-        let frames = self.burst.len() / 2;
-        let mut file = vec![in heap; 0; frames.saturating_mul(5).saturating_add(3)]?;
-        values_file::write_values(self.text.len(), &self.burst, &mut file)?;
+        let lines = self.frames().saturating_mul(FRAME_LINE);
+        let mut file = vec![in heap; 0; lines.saturating_add(FIRST_LINE)]?;
+        write_values(self.text.len(), &self.burst, &mut file)?;
         Ok(file)
     }
 
     // The burst as a sound file.
     pub fn sound(&self, heap: Global) -> Result<Vec<u8>, Failure> {
-        let frames = self.burst.len() / 2;
-        let mut samples = vec![in heap; 0; frames.saturating_mul(FRAME)]?;
+        let mut samples = vec![in heap; 0; self.frames().saturating_mul(FRAME)]?;
         tone::play(&self.burst, &mut samples)?;
-        let mut file = vec![in heap; 0; samples.len().saturating_mul(2).saturating_add(44)]?;
-        sound::write_wave(&samples, &mut file)?;
+        let octets = samples.len().saturating_mul(SAMPLE);
+        let mut file = vec![in heap; 0; octets.saturating_add(HEADER)]?;
+        write_wave(&samples, &mut file)?;
         Ok(file)
+    }
+
+    // How many frames of two elements the burst has.
+    pub fn frames(&self) -> usize
+        ensures { result ≡ vec_len self.now.burst / 2 }
+    {
+        self.burst.len() / 2
     }
 }
 
 // Why a text did not get through.
-#[derive(Drop)]
+#[derive(Debug, Drop, Error)]
 pub enum Failure {
-    Refused(Refusal),
-    Memory,
-}
-
-impl From<Refusal> for Failure {
-    fn from(refusal: Refusal) -> Failure {
-        Failure::Refused(refusal)
-    }
-}
-
-impl From<AllocError> for Failure {
-    fn from(_error: AllocError) -> Failure {
-        Failure::Memory
-    }
-}
-
-// A refusal by its number and its sentence.
-impl fmt::Display for Failure {
-    fn fmt<W: fmt::Write>(&self, f: &mut fmt::Formatter<W>) -> fmt::Result {
-        match self {
-            Failure::Refused(refusal) => {
-                let number = refusal.number();
-                write!(f, "refused {number}: {refusal}")
-            }
-            Failure::Memory => f.write_str("out of memory"),
-        }
-    }
+    // by its number and its sentence
+    #[error("refused {}: {}", .0.number(), .0)]
+    Refused(#[from] Refusal),
+    #[error("out of memory")]
+    Memory(#[from] AllocError),
 }

@@ -1,4 +1,6 @@
 // The one place that says how the layers are printed.
+ghost use Rattle.std.specs.Prelude.{◌<◌};
+
 use crate::outgoing::Outgoing;
 use std::fmt;
 use tone::Tone;
@@ -11,29 +13,51 @@ impl fmt::Display for Report<'_> {
     fn fmt<W: fmt::Write>(&self, f: &mut fmt::Formatter<W>) -> fmt::Result {
         let text = self.0.text.as_slice();
         let coded = self.0.coded.as_slice();
-        let octets = text.len();
-        let bits = coded.len();
-        writeln!(f, "octets: {octets}")?;
+        let burst = self.0.burst.as_slice();
+        writeln!(f, "octets: {}", text.len())?;
         for line in text.chunks(16) {
             writeln!(f, " {}", Octets(line))?;
         }
-        writeln!(f, "coded bits: {bits}")?;
+        // the four bits of a step together
+        writeln!(f, "coded bits: {}", coded.len())?;
         for line in coded.chunks(32) {
-            writeln!(f, " {}", Steps(line))?;
+            write_marks(f, line, 4, |bit| if *bit { '1' } else { '0' })?;
         }
-        let burst = self.0.burst.as_slice();
-        let elements = burst.len();
-        writeln!(f, "elements: {elements}")?;
+        // by their octets, a mute as a dot
+        writeln!(f, "elements: {}", burst.len())?;
         for line in burst.chunks(64) {
-            writeln!(f, " {}", Elements(line))?;
+            write_marks(f, line, 8, |element| match element {
+                0 => '0',
+                1 => '1',
+                _ => '.',
+            })?;
         }
-        let frames = elements / 2;
-        writeln!(f, "tones: {frames}")?;
+        writeln!(f, "tones: {}", self.0.frames())?;
         for line in burst.chunks(32) {
             writeln!(f, " {}", Tones(line))?;
         }
         Ok(())
     }
+}
+
+// Writes a line of marks, so many together.
+fn write_marks<T, W: fmt::Write, M: Fn(&T) -> char>(
+    f: &mut fmt::Formatter<W>,
+    line: &[T],
+    together: usize,
+    mark: M,
+) -> fmt::Result
+    requires some { 0 < together }
+    requires callable { M.IsAlwaysCallable mark }
+{
+    f.write_str(" ")?;
+    for group in line.chunks(together) {
+        f.write_str(" ")?;
+        for item in group {
+            f.write_char(mark(item))?;
+        }
+    }
+    f.write_str("\n")
 }
 
 // Octets in hexadecimal.
@@ -49,53 +73,16 @@ impl fmt::Display for Octets<'_> {
     }
 }
 
-// Coded bits, the four of a step together.
-#[derive(Drop)]
-struct Steps<'a>(&'a [bool]);
-
-impl fmt::Display for Steps<'_> {
-    fn fmt<W: fmt::Write>(&self, f: &mut fmt::Formatter<W>) -> fmt::Result {
-        for (i, bit) in self.0.iter().enumerate() {
-            if i % 4 == 0 {
-                f.write_str(" ")?;
-            }
-            f.write_str(if *bit { "1" } else { "0" })?;
-        }
-        Ok(())
-    }
-}
-
-// Elements by their octets, a mute as a dot, eight together.
-#[derive(Drop)]
-struct Elements<'a>(&'a [u8]);
-
-impl fmt::Display for Elements<'_> {
-    fn fmt<W: fmt::Write>(&self, f: &mut fmt::Formatter<W>) -> fmt::Result {
-        for (i, element) in self.0.iter().enumerate() {
-            if i % 8 == 0 {
-                f.write_str(" ")?;
-            }
-            f.write_str(match element {
-                0 => "0",
-                1 => "1",
-                _ => ".",
-            })?;
-        }
-        Ok(())
-    }
-}
-
 // The frequency of each frame in hertz; silence is 0.
 #[derive(Drop)]
 struct Tones<'a>(&'a [u8]);
 
 impl fmt::Display for Tones<'_> {
     fn fmt<W: fmt::Write>(&self, f: &mut fmt::Formatter<W>) -> fmt::Result {
-        for pair in self.0.chunks(2) {
-            if let [first, second] = pair {
-                let hertz = Tone::of(*first, *second).frequency();
-                write!(f, " {hertz:>4}")?;
-            }
+        let (pairs, _) = self.0.as_chunks::<2>();
+        for [first, second] in pairs {
+            let hertz = Tone::of(*first, *second).frequency();
+            write!(f, " {hertz:>4}")?;
         }
         Ok(())
     }

@@ -1,20 +1,16 @@
-use Rattle.std.proofs.Common.{◌≡◌, true, false, T, ℤ, pos, sym, ap, ◌∙◌, subst, w8, w64, SFits, to_z, of_z}
-use lib.Ieee.{Float, fin, le, lt, to_signed}
+use Rattle.std.proofs.Common.{◌≡◌, ℤ, sym, ap, ◌∙◌, subst, w8, w64, SFits, to_z, of_z}
 use mir.ValLaws.{to_z-of_z}
 use Rattle.card.specs.Floats.{strength}
 use Rattle.card.specs.Readings.{IsValue}
 use Rattle.card.proofs.Pairs.{castable, is_value, eight_bits}
 use Rattle.card.proofs.strength.Goals as goal
 
-pub without_fraction-requires : goal.without_fraction-requires
-without_fraction-requires c =
-    let b = castable c.args.part c.requires in
-    let e = sym c.at_full_strength.ensures in
-    record { low = subst (λ (x : Float). T (le (fin true 1 (pos 63)) x)) e b.0; high = subst (λ (x : Float). T (lt x (fin false 1 (pos 63)))) e b.1 }
+pub truncating_f32_to_i64-requires : goal.truncating_f32_to_i64-requires
+truncating_f32_to_i64-requires c = let b = castable c.args.part c.requires in record { lower_bound = b.0; upper_bound = b.1 }
 
 -- the whole number of 64 bits is the value
-is : (c : goal.After-without_fraction) → to_z w64 (of_z w64 c.without_fraction.result) ≡ strength c.args.part
-is c = to_z-of_z w64 c.without_fraction.result (record { sfits = c.without_fraction.type_inv }) ∙ c.without_fraction.ensures ∙ ap (to_signed 63) c.at_full_strength.ensures
+is : (c : goal.After-truncating_f32_to_i64) → to_z w64 (of_z w64 c.truncating_f32_to_i64.result) ≡ strength c.args.part
+is c = to_z-of_z w64 c.truncating_f32_to_i64.result (record { sfits = c.truncating_f32_to_i64.type_inv }) ∙ c.truncating_f32_to_i64.ensures
 
 pub overflow_cast-result : goal.overflow_cast-result
 overflow_cast-result c = subst (SFits w8) (sym (is c)) (eight_bits (strength c.args.part) (is_value c.args.part c.requires))

@@ -1,28 +1,25 @@
-use Rattle.std.proofs.Common.{◌+◌, ◌%◌, ◌||◌, eqb, ltb, length, get_or, drop, Ok, sym, ap, ◌∙◌}
-use Rattle.std.proofs.lemmas.List.{at_drop_all, at_drop_more}
-use Rattle.std.proofs.lemmas.Bool.{le-ltb, lt-ltb, ne_eqb, or_from, or_left, or_right}
+use Rattle.std.proofs.Common.{◌≡◌, ◌%◌, rules, tests, eqb, length, sym, ◌∙◌}
+use Rattle.std.proofs.lemmas.Bool.{ne_eqb, or_from, or_left, or_right}
+use Rattle.std.proofs.lemmas.Iterator.{YieldsList-from_slice}
+use Rattle.std.proofs.lemmas.Iterator.Search.{any_from_yields_List}
 use Rattle.refusal.specs.declared.Refusal.TheVariants.{BadElements}
 use Rattle.refusal.proofs.Checks.{held, past}
 use Rattle.tone.specs.Tones.{bad, strange}
 use Rattle.tone.proofs.check_elements.Goals as goal
+use Rattle.tone.proofs.check_elements.Goals.{then-elements-eq1-via-then-elements-eq1, then-elements-eq1-via-else-elements-eq1+then-any}
 
-pub returns-then-element-gt-MUTE : goal.returns-then-element-gt-MUTE
-returns-then-element-gt-MUTE c =
+pub returns-then-elements-eq1 : goal.returns-then-elements-eq1
+returns-then-elements-eq1 c =
     let es = c.args.elements.now in
-    let i = c.loop-element.element-index in
-    let e = get_or es i 0 in
-    let found = sym c.loop-element.invariant ∙ at_drop_more strange es i 0 c.loop-element-test.true ∙ or_left (ltb 2 e) (strange (drop (i + 1) es)) (lt-ltb 2 e c.if-element-gt-MUTE.true) in
-    sym (held (bad es) BadElements (Ok tt) (or_right (eqb (length es % 2) 1) (strange es) found))
-
-pub loop-element-preserved : goal.loop-element-preserved
-loop-element-preserved c =
-    let es = c.args.elements.now in
-    let i = c.loop-element.element-index in
-    let rest = strange (drop (i + 1) es) in
-    sym (at_drop_more strange es i 0 c.loop-element-test.true ∙ ap (λ t. t || rest) (le-ltb 2 (get_or es i 0) c.if-element-gt-MUTE.false)) ∙ c.loop-element.invariant
+    sym (held (bad es) BadElements _
+    (elim c.then-elements-eq1.branch [
+      | then-elements-eq1-via-then-elements-eq1 w ↦ or_left (eqb (length es % 2) 1) (strange es) (search rules)
+      | then-elements-eq1-via-else-elements-eq1+then-any w ↦
+          or_right (eqb (length es % 2) 1) (strange es) (sym (any_from_yields_List _ _ _ w.any.result w.any.ensures.ran (YieldsList-from_slice es cc) (λ x b q k. search (rules, tests))) ∙ w.if-any.true)
+    ]))
 
 pub returns : goal.returns
 returns c =
     let es = c.args.elements.now in
-    let none = sym c.loop-element.invariant ∙ at_drop_all strange es c.loop-element.element-index c.loop-element-test.false in
-    sym (past (bad es) BadElements (Ok tt) (or_from (eqb (length es % 2) 1) (strange es) (ne_eqb (length es % 2) 1 c.if-elements-eq1.false) none))
+    let none : strange es ≡ _ = sym (any_from_yields_List _ _ _ c.any.result c.any.ensures.ran (YieldsList-from_slice es cc) (λ x b q k. search (rules, tests))) ∙ c.if-any.false in
+    sym (past (bad es) BadElements _ (or_from (eqb (length es % 2) 1) (strange es) (ne_eqb (length es % 2) 1 c.if-elements-eq1.false) none))

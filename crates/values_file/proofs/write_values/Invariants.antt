@@ -5,5 +5,5 @@ use Rattle.values_file.specs.Values.{first_line, frame_line}
 use Rattle.values_file.proofs.write_values.Given as goal
 
 -- the first line and the lines of the frames before this one stand
-abbrev pub invariant-loop-i : goal.invariant-loop-i
-invariant-loop-i l = l.out ≡ laid (first_line l.m ++ flat_map (frame_line l.elements) (range_with_len 0 l.i)) l.initial.out
+abbrev pub invariant-loop-frame : goal.invariant-loop-frame
+invariant-loop-frame l = l.out ≡ laid (first_line l.m ++ flat_map (frame_line l.elements) (range_with_len 0 l.frame)) l.initial.out

@@ -15,9 +15,10 @@ held g l o e = subst (λ (x : Float). T (fits binary32 x)) e (subst T (sym o) tt
 pub returns-then-greatest : goal.returns-then-greatest
 returns-then-greatest c =
     let l = c.args.self.now in
-    let g = c.greatest-greatest in
-    let e = pair_silent l (ap (λ (x : Float). eq x nought) (sym g.ensures) ∙ c.if-greatest.true) in
-    record { is = sym e; promised = subst (Promised (Measured l)) e (promised l c.requires (held g.result l g.type_inv g.ensures)) }
+    let g = c.greater-greatest in
+    let most : g.result ≡ greatest l = cc in
+    let e = pair_silent l (ap (λ (x : Float). eq x nought) (sym most) ∙ c.if-greatest.true) in
+    record { is = sym e; promised = subst (Promised (Measured l)) e (promised l c.requires (held g.result l g.type_inv most)) }
 
 loud : (g : Float) (l : Levels) → eq g nought ≡ false → g ≡ greatest l → eq (greatest l) nought ≡ false
 loud g l n e = ap (λ (x : Float). eq x nought) (sym e) ∙ n
@@ -25,24 +26,27 @@ loud g l n e = ap (λ (x : Float). eq x nought) (sym e) ∙ n
 pub strength-requires : goal.strength-requires
 strength-requires c =
     let l = c.args.self.now in
-    let g = c.greatest-greatest in
+    let g = c.greater-greatest in
+    let most : g.result ≡ greatest l = cc in
     let e : c.share-first.result ≡ share (first_one l) (first_zero l) (greatest l) = cc in
-    subst (λ (x : Float). T (is_balance x)) (sym e) (first_taken l c.requires (loud g.result l c.if-greatest.false g.ensures) (held g.result l g.type_inv g.ensures))
+    subst (λ (x : Float). T (is_balance x)) (sym e) (first_taken l c.requires (loud g.result l c.if-greatest.false most) (held g.result l g.type_inv most))
 
 pub strength-requires-2 : goal.strength-requires-2
 strength-requires-2 c =
     let l = c.args.self.now in
-    let g = c.greatest-greatest in
+    let g = c.greater-greatest in
+    let most : g.result ≡ greatest l = cc in
     let e : c.share-second.result ≡ share (second_one l) (second_zero l) (greatest l) = cc in
-    subst (λ (x : Float). T (is_balance x)) (sym e) (second_taken l c.requires (loud g.result l c.if-greatest.false g.ensures) (held g.result l g.type_inv g.ensures))
+    subst (λ (x : Float). T (is_balance x)) (sym e) (second_taken l c.requires (loud g.result l c.if-greatest.false most) (held g.result l g.type_inv most))
 
 pub returns : goal.returns
 returns c =
     let l = c.args.self.now in
-    let g = c.greatest-greatest in
+    let g = c.greater-greatest in
+    let most : g.result ≡ greatest l = cc in
     let a : c.strength.result ≡ strength (share (first_one l) (first_zero l) (greatest l)) = cc in
     let b : c.strength-2.result ≡ strength (share (second_one l) (second_zero l) (greatest l)) = cc in
     let e =
     pair_of (to_z-of_z w8 c.strength.result (record { sfits = c.strength.type_inv }) ∙ a) (to_z-of_z w8 c.strength-2.result (record { sfits = c.strength-2.type_inv }) ∙ b)
-    ∙ sym (pair_loud l (loud g.result l c.if-greatest.false g.ensures)) in
-    record { is = e; promised = subst (Promised (Measured l)) (sym e) (promised l c.requires (held g.result l g.type_inv g.ensures)) }
+    ∙ sym (pair_loud l (loud g.result l c.if-greatest.false most)) in
+    record { is = e; promised = subst (Promised (Measured l)) (sym e) (promised l c.requires (held g.result l g.type_inv most)) }
