@@ -6,7 +6,6 @@ mod levels;
 #[cfg(test)]
 mod trials;
 
-use anyhow::anyhow;
 use code::{LONGEST_TEXT, encode};
 use levels::{LOST, Levels, full};
 use refusal::Refusal;
@@ -73,22 +72,18 @@ impl Search {
     }
 }
 
-fn refused(refusal: Refusal) -> anyhow::Error {
-    anyhow!("{refusal}")
-}
-
 // What a run says: the distance and the text found, or how long a bit takes.
 fn report(rt: &HostRuntime, rounds: u32) -> anyhow::Result<()> {
-    let mut search = Search::new().map_err(refused)?;
+    let mut search = Search::new()?;
     let start = Instant::now(rt)?;
-    search.repeat(rounds).map_err(refused)?;
+    search.repeat(rounds)?;
     let nanos = start.elapsed(rt)?.as_nanos();
     let bits = u128::from(rounds) * 8 * LONGEST_TEXT as u128;
     if bits > 0 {
         println!(rt; "{} ns per text bit", nanos / bits)?;
         return Ok(());
     }
-    let distance = search.run().map_err(refused)?;
+    let distance = search.run()?;
     println!(rt; "distance {distance}")?;
     for octet in search.text {
         print!(rt; "{octet:02X}")?;
