@@ -32,8 +32,8 @@ pub type Answer = Result<Accepted, Refusal>;
 impl<'a> Receiver<'a> {
     // Makes a call.
     fn answer<M: MarkedStage>(&mut self, call: &Call<M>) -> Answer
-        ensures answer { as_reply result ≡ reply (room self.old) (held self.old) (as_request (λ s. M.Stage.meaning s) M.MarkedStage.markers call.now) }
-        ensures after { Follows self.old (as_request (λ s. M.Stage.meaning s) M.MarkedStage.markers call.now) self.new }
+        ensures answer { as_reply result ≡ reply (room self.old) (held self.old) (as_request M.Stage.meaning M.MarkedStage.markers call.now) }
+        ensures after { Follows self.old (as_request M.Stage.meaning M.MarkedStage.markers call.now) self.new }
     {
         match *call {
             Call::Begin => {
@@ -56,9 +56,9 @@ pub fn play<M: MarkedStage>(
     answers: &mut [Answer],
 ) -> Result<(), Refusal>
     ensures answer { result ≡ refused_when (nat_lt (length answers.old) (length calls.now)) MemoryTooShort (Ok tt) }
-    ensures answers { map as_reply answers.new ≡ after result (replies (capacity (length memory.old)) opened (map (as_request (λ s. M.Stage.meaning s) M.MarkedStage.markers) calls.now)) (map as_reply answers.old) }
-    ensures memory { memory.new ≡ (if is_ok result then memory_after (capacity (length memory.old)) opened memory.old (map (as_request (λ s. M.Stage.meaning s) M.MarkedStage.markers) calls.now) else memory.old) }
-    ensures law { is_ok result ≡ true → Lawful (capacity (length memory.old)) (map (as_request (λ s. M.Stage.meaning s) M.MarkedStage.markers) calls.now) (map as_reply answers.new) }
+    ensures answers { map as_reply answers.new ≡ after result (replies (capacity (length memory.old)) opened (map (as_request M.Stage.meaning M.MarkedStage.markers) calls.now)) (map as_reply answers.old) }
+    ensures memory { memory.new ≡ (if is_ok result then memory_after (capacity (length memory.old)) opened memory.old (map (as_request M.Stage.meaning M.MarkedStage.markers) calls.now) else memory.old) }
+    ensures law { is_ok result ≡ true → Lawful (capacity (length memory.old)) (map (as_request M.Stage.meaning M.MarkedStage.markers) calls.now) (map as_reply answers.new) }
 {
     if answers.len() < calls.len() {
         return Err(Refusal::MemoryTooShort);
