@@ -1,33 +1,26 @@
--- The steps of the sum over the markers.
-use Rattle.std.proofs.Common.{◌≡◌, ℕ, ◌+◌, ◌*◌, ◌<◌, ◌≤◌, true, List, length, get_or, take, ℤ, pos, negsuc, ◌+ℤ◌, neg_ℤ, ◌≤ℤ◌, Ok, Result, sym, arith, w32, to_z, of_z}
+-- The sum over the markers.
+use Rattle.std.proofs.Common.{◌≡◌, ℕ, ◌+◌, ◌*◌, ◌<◌, ◌≤◌, List, length, get_or, take, ℤ, pos, negsuc, ◌+ℤ◌, neg_ℤ, ◌≤ℤ◌, sym, arith, w32, to_z, of_z}
 use Rattle.std.proofs.lemmas.Int.{ints}
 use Rattle.std.proofs.lemmas.List.Sums.{fold_more}
-use Rattle.std.proofs.lemmas.Bool.{lt-leb}
-use Rattle.refusal.specs.declared.Refusal.{Refusal}
 use Rattle.stage.specs.declared.Marker.{Marker}
-use Rattle.stage.specs.Meaning.{Meaning}
-use Rattle.stage.specs.Marked.{marker_answer, no_marker}
+use Rattle.stage.specs.Marked.{no_marker}
 use Rattle.fit.specs.Fit.{agreement, fit}
 
--- a marker that exists is told
-pub told_marker : (meaning : Meaning) (markers : ℕ → List Marker) (n k : ℕ) (r : Result Marker Refusal) (m : Marker) → meaning.takes n ≡ true → k < length (markers n) → r ≡ marker_answer meaning markers n k → r ≡ Ok m → m ≡ get_or (markers n) k no_marker
-told_marker meaning markers n k r m t below e is =
-    let told : marker_answer meaning markers n k ≡ Ok (get_or (markers n) k no_marker) =
-    rw (t, lt-leb (length (markers n)) k below) in
-    cc
+-- a sum over the first i markers; it stays far from the ends of its type
+pub record Summed (values : List ℤ) (markers : List Marker) (start i : ℕ) (sum : ℤ) : Type 0 where
+  pub is : sum ≡ fit values (take i markers) start
+  pub low : neg_ℤ (pos (128 * i)) ≤ℤ sum
+  pub high : sum ≤ℤ pos (128 * i)
+
+-- the sum that the code computes, as long as there are few markers
+kept : (a r : ℤ) (k : ℕ) → k ≤ 32768 → neg_ℤ (pos (128 * k)) ≤ℤ a → a ≤ℤ pos (128 * k) → negsuc 127 ≤ℤ r → r ≤ℤ pos 128 → to_z w32 (of_z w32 (a +ℤ to_z w32 (of_z w32 r))) ≡ a +ℤ r
+kept a r k few low high least most = omega (arith, ints)
 
 -- one marker more
-pub fit_more : (values : List ℤ) (markers : List Marker) (start i : ℕ) (m : Marker) (sum r : ℤ) → i < length markers → m ≡ get_or markers i no_marker → sum ≡ fit values (take i markers) start → r ≡ agreement values start m → sum +ℤ r ≡ fit values (take (i + 1) markers) start
-fit_more values markers start i m sum r below is so_far agrees =
+pub summed_more : (values : List ℤ) (markers : List Marker) (start i : ℕ) (m : Marker) (sum r : ℤ) → i < length markers → i ≤ 32768 → m ≡ get_or markers i no_marker → Summed values markers start i sum → r ≡ agreement values start m → negsuc 127 ≤ℤ r → r ≤ℤ pos 128 → Summed values markers start (i + 1) (to_z w32 (of_z w32 (sum +ℤ to_z w32 (of_z w32 r))))
+summed_more values markers start i m sum r below few is so_far agrees least most =
     let more = fold_more (λ sum k. sum +ℤ agreement values start k) (pos 0) markers i no_marker below in
-    rw (so_far, agrees, is) (sym more)
-
--- the sum stays far from the ends of its type
-pub sum_kept : (a r : ℤ) (k : ℕ) → k ≤ 32768 → neg_ℤ (pos (128 * k)) ≤ℤ a → a ≤ℤ pos (128 * k) → negsuc 127 ≤ℤ r → r ≤ℤ pos 128 → to_z w32 (of_z w32 (a +ℤ to_z w32 (of_z w32 r))) ≡ a +ℤ r
-sum_kept a r k few low high least most = omega (arith, ints)
-
-pub sum_low : (a r : ℤ) (k : ℕ) → neg_ℤ (pos (128 * k)) ≤ℤ a → negsuc 127 ≤ℤ r → neg_ℤ (pos (128 * (k + 1))) ≤ℤ (a +ℤ r)
-sum_low a r k low least = omega (arith, ints)
-
-pub sum_high : (a r : ℤ) (k : ℕ) → a ≤ℤ pos (128 * k) → r ≤ℤ pos 128 → (a +ℤ r) ≤ℤ pos (128 * (k + 1))
-sum_high a r k high most = omega (arith, ints)
+    let low = so_far.low in
+    let high = so_far.high in
+    rw (kept sum r i few low high least most)
+    (record { is = rw (so_far.is, agrees, is) (sym more); low = omega (arith, ints); high = omega (arith, ints) })

@@ -1,7 +1,6 @@
 use Rattle.std.proofs.Common.{◌≡◌, ◌<◌, false, ltb, List, map, length, ℤ, refl, ◌∙◌, subst, arith, rules}
 use Rattle.std.proofs.lemmas.List.{length-map}
 use Rattle.std.proofs.lemmas.Bool.{le-ltb}
-use Rattle.stage.specs.Meaning.{Meaning}
 use Rattle.receiver.specs.State.{opened, capacity, Request}
 use Rattle.receiver.specs.Held.{memory_of, held}
 use Rattle.receiver.specs.History.{as_request, as_reply, memory_after}
@@ -15,8 +14,7 @@ loop-i-init g c = (record { state = c.open-receiver.ensures.state; left = refl; 
 
 pub loop-i-preserved : goal.loop-i-preserved
 loop-i-preserved g c =
-    let meaning : g.row.M.Denot → Meaning = λ s. g.M.Stage.meaning s in
-    let f : Call g.row.M.Denot → Request = as_request meaning g.M.MarkedStage.markers in
+    let f : Call g.row.M.Denot → Request = as_request g.M.Stage.meaning g.M.MarkedStage.markers in
     let inv = c.loop-i.invariant in
     let follows = c.answer.ensures.after in
     let within : c.loop-i.i < length (map as_reply c.args.answers.now) = rw length-map (omega arith) in (
@@ -27,8 +25,7 @@ loop-i-preserved g c =
 
 pub returns : goal.returns
 returns g c =
-    let meaning : g.row.M.Denot → Meaning = λ s. g.M.Stage.meaning s in
-    let f : Call g.row.M.Denot → Request = as_request meaning g.M.MarkedStage.markers in
+    let f : Call g.row.M.Denot → Request = as_request g.M.Stage.meaning g.M.MarkedStage.markers in
     let calls = map f c.args.calls.now in
     let found = map as_reply c.args.answers.now in
     let inv = c.loop-i.invariant in
@@ -44,5 +41,5 @@ returns g c =
       answer = rw enough refl;
       answers = all.1;
       memory = search rules;
-      law = λ _. lawful meaning g.M.MarkedStage.markers (capacity (length memory)) c.args.calls.now (map as_reply c.loop-i.answers) _ all.1;
+      law = λ _. lawful g.M.Stage.meaning g.M.MarkedStage.markers (capacity (length memory)) c.args.calls.now (map as_reply c.loop-i.answers) _ all.1;
     }
