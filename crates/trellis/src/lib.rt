@@ -23,6 +23,39 @@ pub trait SoftBits {
         ensures one { result.1 ≡ cost self.now i true };
 }
 
+// A state of the coder: the last four bits as a number, the oldest counting 1.
+#[derive(Clone, Copy)]
+struct State {
+    number: usize,
+    ghost within: { number < 16 },
+}
+
+impl State {
+    // The state in which every text begins and, after its four zero bits, ends.
+    const ZERO: State = State { number: 0 };
+
+    // The state before, by the decision bit that this one has among those of its step.
+    fn before(self, decisions: u16) -> State
+        ensures { result.number ≡ back self.number decisions }
+    {
+        let state = self.number;
+        State {
+            number: 2 * (state % 8) + usize::from((decisions >> state) % 2),
+        }
+    }
+
+    // The state before the four steps from `step` on.
+    fn before_four(self, work: &[u16], step: usize) -> State
+        requires { step + 4 ≤ length work.now }
+        ensures { result.number ≡ four_back work.now step self.number }
+    {
+        work[step..step + 4]
+            .iter()
+            .rev()
+            .fold(self, |state, decisions| state.before(*decisions))
+    }
+}
+
 // What a path costs that did not begin in the zero state: more than any text.
 const UNREACHED: u32 = 1 << 30;
 
@@ -112,39 +145,6 @@ fn forward<S: SoftBits>(source: &S, work: &mut [u16]) -> u32
         metrics = next.metrics;
     }
     metrics[State::ZERO.number]
-}
-
-// A state of the coder: the last four bits as a number, the oldest counting 1.
-#[derive(Clone, Copy)]
-struct State {
-    number: usize,
-    ghost within: { number < 16 },
-}
-
-impl State {
-    // The state in which every text begins and, after its four zero bits, ends.
-    const ZERO: State = State { number: 0 };
-
-    // The state before, by the decision bit that this one has among those of its step.
-    fn before(self, decisions: u16) -> State
-        ensures { result.number ≡ back self.number decisions }
-    {
-        let state = self.number;
-        State {
-            number: 2 * (state % 8) + usize::from((decisions >> state) % 2),
-        }
-    }
-
-    // The state before the four steps from `step` on.
-    fn before_four(self, work: &[u16], step: usize) -> State
-        requires { step + 4 ≤ length work.now }
-        ensures { result.number ≡ four_back work.now step self.number }
-    {
-        work[step..step + 4]
-            .iter()
-            .rev()
-            .fold(self, |state, decisions| state.before(*decisions))
-    }
 }
 
 // The octet whose lower and upper four bits are two states.
