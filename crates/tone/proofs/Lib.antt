@@ -1,3 +1,4 @@
 mod Made
 pub mod Pairs
 pub mod Period
+mod Strange

@@ -1,6 +1,6 @@
 -- The tones: which frequency a pair of elements sounds at, and its samples.
-use Rattle.std.specs.Prelude.{ℕ, ◌+◌, ◌-◌, ◌*◌, ◌/◌, ◌%◌, Bool, cond, ◌&&◌, ◌||◌, List, [], ◌∷◌, map, length, ℤ, pos, ◌*ℤ◌, neg_ℤ, Ok, Result, ◌==◌, nat_le, nat_lt, slice_index}
-use Rattle.std.specs.List.{list_any, range_with_len}
+use Rattle.std.specs.Prelude.{ℕ, ◌+◌, ◌-◌, ◌*◌, ◌/◌, ◌%◌, Bool, false, cond, ◌&&◌, ◌||◌, List, [], ◌∷◌, map, length, ℤ, pos, ◌*ℤ◌, neg_ℤ, Ok, Result, ◌==◌, nat_le, nat_lt, slice_index}
+use Rattle.std.specs.List.{range_with_len}
 use Rattle.refusal.specs.declared.Refusal.{Refusal}
 use Rattle.refusal.specs.declared.Refusal.TheVariants.{BadElements, MemoryTooShort}
 use Rattle.refusal.specs.Answer.{refused_when}
@@ -54,9 +54,10 @@ sample elements p = tone_sample (frame elements (p / 40)) (p % 40)
 abbrev pub samples : List ℕ → List ℤ
 samples elements = map (sample elements) (range_with_len 0 (20 * length elements))
 
--- an octet of the list is above 2, and stands for no element
+-- an octet of the list stands for no element
 abbrev pub strange : List ℕ → Bool
-strange = list_any (nat_lt 2)
+strange [] = false
+strange (e ∷ es) = nat_lt 2 e || strange es
 
 -- elements that cannot be played: an odd count, or an octet above 2
 abbrev pub bad : List ℕ → Bool
