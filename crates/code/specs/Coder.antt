@@ -1,5 +1,4 @@
 -- The convolutional code: what is sent for a text.
--- Assumes nothing.
 use Rattle.std.specs.Prelude.{ℕ, ◌+◌, ◌-◌, ◌*◌, ◌/◌, ◌%◌, ◌^◌, Bool, false, cond, List, [], ◌∷◌, map, length, Ok, Result, ◌==◌, nat_le, nat_lt, slice_index, slice_index_or}
 use Rattle.std.specs.Bool.{xor}
 use Rattle.std.specs.List.{range_with_len}

@@ -1,5 +1,4 @@
 -- The coder's shift register: a list of the last five bits, the newest first.
--- Assumes nothing.
 use Rattle.std.specs.Prelude.{ℕ, Bool, false, List, ◌∷◌, map, take, slice_index_or}
 use Rattle.std.specs.List.{range_with_len}
 use Rattle.code.specs.Coder.{before, parity, sums}

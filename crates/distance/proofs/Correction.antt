@@ -1,6 +1,5 @@
 -- With twice the wrong coded bits plus the lost ones at most 15, the text sent is nearer than every other: place by place
 -- a difference adds 254 to the gap between the distances, less 508 where the bit is wrong and 254 where it is lost.
--- Assumes nothing.
 use Rattle.std.proofs.Common.{◌≡◌, ℕ, ◌+◌, ◌*◌, ◌≤◌, Bool, true, false, ap, arith, lit≤}
 use mathlib.Core.Bool.{xor}
 use Rattle.code.specs.Coder.{bit, coded, coded_count}

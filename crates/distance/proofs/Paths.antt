@@ -1,6 +1,5 @@
 -- The best path into a state: a path is as good as its first bits, and the best path into a state extends a best path
 -- into one of the two states before it.
--- Assumes nothing.
 use Rattle.std.proofs.Common.{◌≡◌, ℕ, zero, suc, ◌+◌, ◌*◌, ◌^◌, ◌<◌, ◌≤◌, Bool, true, false, sym, refl, ap, ◌∙◌, pow-suc, arith}
 use Rattle.distance.specs.Nearest.{total}
 use Rattle.distance.specs.Trellis.{four, one, state, window, branch, begin_cost, path_cost, value, Best}

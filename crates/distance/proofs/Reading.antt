@@ -1,5 +1,4 @@
 -- Why the reading is right: the best path into the zero state, traced back, is the path of the nearest text.
--- Assumes nothing.
 use Rattle.std.proofs.Common.{◌≡◌, ℕ, zero, suc, ◌+◌, ◌-◌, ◌*◌, ◌/◌, ◌^◌, ◌<◌, ◌≤◌, Bool, true, false, cond, eqb, ◌⊎◌, List, length, get_or, replicate, sym, refl, ap, ◌∙◌, subst, inl, inr, ⊎_elim, arith, lit<, lit≤}
 use Rattle.std.proofs.lemmas.Bool.{eqb-true, cases_lt, cases_order}
 use lib.ListN.{length-replicate, get_or-replicate, get_or-eq_default}

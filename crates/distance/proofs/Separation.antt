@@ -2,7 +2,6 @@
 -- The code is linear: the places where two coded streams differ are the ones of the coded difference. For each state of
 -- the coder there is a least weight still to come before it is back in the zero state; one computed test over the 32
 -- branches shows that no branch takes more off it than the branch weighs, and the first 1 weighs 4 and leaves 12.
--- Assumes nothing.
 use Rattle.std.proofs.Common.{◌≡◌, ℕ, zero, suc, ◌+◌, ◌*◌, ◌<◌, ◌≤◌, Bool, true, false, ◌&&◌, T, leb, ◌⊎◌, List, [], ◌∷◌, map, length, get_or, sym, refl, ap, ◌∙◌, subst, inl, inr, ⊎_elim, arith, lit≤, leb→le}
 use mathlib.Core.Bool.{xor}
 use Rattle.std.proofs.lemmas.Bool.{cases_lt, lt-ltb}

@@ -1,5 +1,4 @@
 -- Texts as paths: what a text's path costs is its distance, and the order of paths is the order of texts.
--- Assumes nothing.
 use Rattle.std.proofs.Common.{◌≡◌, ℕ, zero, suc, ◌+◌, ◌*◌, ◌/◌, ◌%◌, ◌^◌, ◌<◌, ◌≤◌, Bool, false, eqb, List, [], ◌∷◌, map, length, get_or, sym, refl, ap, ◌∙◌, zero-add, arith}
 use native.Mathlib.Nat.{suc-sub-suc, sub-zero, zero-div}
 use lib.Dec.{leb-suc-suc, leb-suc-zero}

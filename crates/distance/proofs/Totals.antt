@@ -1,5 +1,4 @@
 -- Sums over the places below n.
--- Assumes nothing.
 use Rattle.std.proofs.Common.{◌≡◌, ℕ, zero, suc, ◌+◌, ◌*◌, ◌<◌, ◌≤◌, sym, refl, ap, mul-zero, arith}
 use Rattle.distance.specs.Nearest.{total}
 

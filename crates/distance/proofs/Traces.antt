@@ -1,5 +1,4 @@
 -- The path that the decisions lead back to, and one step of the search.
--- Assumes nothing.
 use Rattle.std.proofs.Common.{◌≡◌, ℕ, zero, suc, ◌+◌, ◌*◌, ◌/◌, ◌%◌, ◌^◌, ◌<◌, ◌≤◌, Bool, true, false, cond, eqb, ltb, List, [], ◌∷◌, get_or, replicate, sym, refl, ap, ◌∙◌, subst, add-zero, arith}
 use lib.Dec.{eqb-suc-zero}
 use lib.ListN.{get_or-replicate}

@@ -1,5 +1,4 @@
 -- How far apart the coded bits of two texts lie, and how much noise that corrects.
--- Assumes nothing.
 use Rattle.std.specs.Prelude.{◌≡◌, ℕ, ◌+◌, ◌*◌, ◌<◌, ◌≤◌, Bool, true, false, cond, List, ◌≢◌}
 use Rattle.std.specs.Bool.{xor}
 use Rattle.code.specs.Coder.{bit, coded, coded_count}

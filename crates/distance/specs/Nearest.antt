@@ -1,5 +1,4 @@
 -- How far a text lies from what was heard, the order of texts, and the nearest text.
--- Assumes nothing.
 use Rattle.std.specs.Prelude.{◌≡◌, ℕ, zero, suc, ◌+◌, ◌<◌, ◌≤◌, Bool, List, length, ◌≢◌, slice_index}
 use Rattle.code.specs.Coder.{bit, coded, coded_count}
 

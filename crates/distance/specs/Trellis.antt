@@ -1,7 +1,6 @@
 -- The trellis: paths through the sixteen states of the coder, what a path costs, and the best path into a state.
 -- A path is a stream of bits that begins with the four before the first bit of the text: after k steps the coder's
 -- state is the four bits from place k on, and step k adds the bit at place k + 4.
--- Assumes nothing.
 use Rattle.std.specs.Prelude.{◌≡◌, ℕ, zero, suc, ◌+◌, ◌*◌, ◌/◌, ◌%◌, ◌^◌, ◌<◌, ◌≤◌, Bool, false, cond, List, [], ◌∷◌, map, get_or, ◌==◌, nat_lt, slice_index, slice_index_or}
 use Rattle.code.specs.Coder.{bit, before, sums, parity}
 use Rattle.distance.specs.Nearest.{total}

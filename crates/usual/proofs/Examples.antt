@@ -1,4 +1,4 @@
--- The worked examples hold. Assumes nothing.
+-- The worked examples hold.
 use mathlib.Core.Bool.{xor}
 use Rattle.std.proofs.Common.{refl}
 use Rattle.layout.proofs.StandardLaws.{worked}
