@@ -64,7 +64,7 @@ fn strength(part: f32) -> i8
     truncating_f32_to_i64(part * FULL_STRENGTH) as i8
 }
 
-// The greater of two floats: the first of two that are equal, and the other of one that is no number. `f32::max` may
+// The greater of two floats: the first where they are equal, and the other where one is no number. `f32::max` may
 // answer either of two that are equal, as 0.0 and -0.0.
 fn greater(x: f32, y: f32) -> f32
     ensures { result ≡ float_max x y }

@@ -1,4 +1,5 @@
-// One character of UTF-8, by the ranges that its octets lie in.
+// One character of UTF-8, by the ranges that its octets lie in. std's `from_utf8` says how far a whole slice is valid, and
+// the octets of its first character would still have to be told apart.
 ghost use Rattle.std.specs.Prelude.{◌≡◌, ◌∷◌, true, Decides};
 ghost use Rattle.std.proofs.Math.Utf8.{scalar};
 ghost use Rattle.character.specs.Forms.{Tail, Second, least_second, greatest_second, with_behind, Found};

@@ -167,6 +167,7 @@ pub fn remove_controls(text: &[u8], memory: &mut [u8]) -> Result<usize, Refusal>
         return Err(Refusal::MemoryTooShort);
     }
     let plain = text.iter().copied().filter(|octet| !is_control(*octet));
+    // By its place: of what is written through `iter_mut` under a `zip`, a proof knows nothing afterwards.
     for (place, octet) in plain.enumerate() {
         memory[place] = octet;
     }

@@ -115,7 +115,7 @@ pub fn encode(text: &[u8], out: &mut [bool]) -> Result<usize, Refusal>
         return Err(Refusal::MemoryTooShort);
     }
     let mut register = Register::default();
-    // By ranges: of what `chunks_exact_mut` and `as_chunks_mut` lend, a proof does not know what it ends as.
+    // By ranges: of what is written through `chunks_exact_mut` or `as_chunks_mut` a proof knows nothing after the loop.
     for k in 0..count / SUMS {
         register = register.shifted(bit_at(text, k));
         out[SUMS * k..SUMS * (k + 1)].copy_from_slice(&register.sums());

@@ -42,7 +42,7 @@ struct Search<'a, M: MarkedStage> {
 
 impl<M: MarkedStage> Search<'_, M> {
     // The fit at a start whose whole burst was heard. The only place where markers are asked for. Inlined, so that what
-    // the stage answers is inlined into the sum: that halves the time of a search.
+    // the stage answers is inlined into the sum: else a search takes about twice the time.
     #[inline(always)]
     fn fit_at(&self, start: usize) -> Result<i32, Refusal>
         requires { start + self.now.burst ≤ length self.now.values.now }
@@ -63,7 +63,7 @@ impl<M: MarkedStage> Search<'_, M> {
     {
         let starts = self.values.len() - self.burst + 1;
         let mut best = (0, self.fit_at(0)?);
-        // a start is a number to answer: `windows` has the values there, but takes no burst of length 0
+        // starts are numbers, and the best of them is answered
         for start in 1..starts {
             let fit = self.fit_at(start)?;
             if fit > best.1 {
@@ -99,7 +99,7 @@ pub fn best_start<M: MarkedStage>(
         markers,
     };
     let (start, fit) = search.earliest_best()?;
-    // a `From` would have to hold at every usize, where the search knows that its markers are few
+    // no `From` leads from a usize to an i32; the search knows that its markers are few
     if fit < LEAST_FIT * markers as i32 {
         return Err(Refusal::PoorFit);
     }

@@ -6,8 +6,8 @@ use Rattle.stage.specs.declared.Content.{Content}
 use Rattle.stage.specs.declared.Content.TheVariants.{Carried, Inverted, Fixed}
 use Rattle.stage.specs.Meaning.{Homes, carries, home_of}
 use Rattle.stage.specs.Marked.{Marked, no_marker}
-use Rattle.layout.specs.Places.{taken, how_many}
-use Rattle.layout.specs.Interleaver.{column, scrambled, in_preamble, preamble_bit, preamble_at, interleaved, interleaver_size, interleaver_at, interleaver_meaning, interleaver_markers}
+use Rattle.layout.specs.Places.{how_many}
+use Rattle.layout.specs.Interleaver.{column, scrambled, in_preamble, preamble_bit, preamble_at, interleaved, interleaver_at, interleaver_meaning, interleaver_markers}
 use Rattle.layout.proofs.Places.{true_T, passed, passed_back, how_many_past, how_many_below, length-markers, marker_is}
 use Rattle.layout.proofs.Fitting.{Placed, homes_fit, home_is, markers_hold}
 use Rattle.layout.proofs.Tables.{at}

@@ -5,8 +5,7 @@ use Rattle.stage.specs.declared.Content.{Content}
 use Rattle.stage.specs.declared.Content.TheVariants.{Carried, Fixed}
 use Rattle.stage.specs.Meaning.{Homes, carries, home_of}
 use Rattle.stage.specs.Marked.{Marked, no_marker}
-use Rattle.layout.specs.Places.{taken}
-use Rattle.layout.specs.Lead.{in_lead, lead_bit, lead_size, lead_at, lead_meaning, lead_markers}
+use Rattle.layout.specs.Lead.{in_lead, lead_bit, lead_at, lead_meaning, lead_markers}
 use Rattle.layout.proofs.Places.{true_T, how_many_past, how_many_all, length-markers, marker_is}
 use Rattle.layout.proofs.Fitting.{Placed, homes_fit, home_is, markers_hold}
 

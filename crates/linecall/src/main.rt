@@ -77,7 +77,7 @@ fn acknowledge(line: &mut Line, burst: &[u8], waiting: bool) -> Option<Acknowled
     line.hear(burst).map(|due| due.settle(waiting))
 }
 
-// A line, and where what happens on it is printed.
+// A line, and the runtime that prints what happens on it.
 #[derive(Drop)]
 struct Run<'a> {
     rt: &'a HostRuntime,

@@ -58,6 +58,7 @@ impl<L: Stage, U: Stage> Stage for Pile<L, U> {
     #[tactic(auto, using(stage::proofs::Answers::home_through))]
     fn home(&self, n: usize, element: usize) -> Result<usize, Refusal> {
         let middle = self.lower.length(n)?;
+        // asked first, so that a count is refused before an element
         self.upper.length(middle)?;
         self.upper.home(middle, self.lower.home(n, element)?)
     }

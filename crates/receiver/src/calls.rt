@@ -43,7 +43,7 @@ impl<'a> Receiver<'a> {
         ensures answer { result ≡ hear_answer (room self.old) (held self.old) heard.now }
         ensures after { Follows self.old (hears heard.now) self.new }
     {
-        // each value is looked at before any is appended
+        // the exchange asks for this loop: each value is looked at before any is appended
         for value in heard {
             if *value == i8::MIN {
                 return Err(Refusal::ValueOutOfRange);

@@ -10,7 +10,7 @@ use crate::memory::Receiver;
 use refusal::Refusal;
 use stage::MarkedStage;
 
-// A call of a receiver. The piles of one list have one type: stages of two types mix as a stage that is one of both.
+// A call of a receiver. The piles of one list have one type: stages of two types mix as a stage that is one of two.
 #[derive_where(Clone, Copy)]
 pub enum Call<'c, M> {
     Begin,
@@ -19,7 +19,7 @@ pub enum Call<'c, M> {
     Find { pile: &'c M, m: usize },
 }
 
-// What an accepted call answers.
+// What an accepted call answers: a case for each kind of answer, and no `Option`, whose `None` would read as a refusal.
 #[derive(Clone, Copy, PartialEq, Eq, Debug)]
 pub enum Accepted {
     Done,

@@ -1,4 +1,4 @@
-// The one closed list of refusals. Every call of the modem answers its result or one of these.
+// The one closed list of refusals, each with its number. Every call of the modem answers its result or one of these.
 #![tactic(auto)]
 
 ghost use Rattle.std.specs.Prelude.{◌≡◌, Some};
@@ -10,31 +10,31 @@ use std::fmt;
 #[derive(Clone, Copy, PartialEq, Eq, Debug)]
 pub enum Refusal {
     // the text has no octet
-    EmptyText,
+    EmptyText = 1,
     // the text has more than 240 octets
-    TextTooLong,
+    TextTooLong = 2,
     // output or working memory is too short
-    MemoryTooShort,
+    MemoryTooShort = 3,
     // a value is -128
-    ValueOutOfRange,
+    ValueOutOfRange = 4,
     // the receiver's capacity would be exceeded
-    CapacityExceeded,
+    CapacityExceeded = 5,
     // a named place or item does not exist
-    NoSuchPlace,
+    NoSuchPlace = 6,
     // the whole burst has not been heard
-    BurstNotHeard,
+    BurstNotHeard = 7,
     // the pile has no marker
-    NoMarker,
+    NoMarker = 8,
     // the greatest fit is below 64 times the markers
-    PoorFit,
+    PoorFit = 9,
     // the stage or pile does not take that many elements
-    CountNotTaken,
+    CountNotTaken = 10,
     // an odd count of elements, or an octet above 2
-    BadElements,
+    BadElements = 11,
     // a level or balance is outside its range
-    ReadingOutOfRange,
+    ReadingOutOfRange = 12,
     // a bad line of the values file
-    BadLine,
+    BadLine = 13,
 }
 
 impl Refusal {
@@ -42,21 +42,7 @@ impl Refusal {
     pub fn number(self) -> u8
         ensures { result ≡ number_of self }
     {
-        match self {
-            Refusal::EmptyText => 1,
-            Refusal::TextTooLong => 2,
-            Refusal::MemoryTooShort => 3,
-            Refusal::ValueOutOfRange => 4,
-            Refusal::CapacityExceeded => 5,
-            Refusal::NoSuchPlace => 6,
-            Refusal::BurstNotHeard => 7,
-            Refusal::NoMarker => 8,
-            Refusal::PoorFit => 9,
-            Refusal::CountNotTaken => 10,
-            Refusal::BadElements => 11,
-            Refusal::ReadingOutOfRange => 12,
-            Refusal::BadLine => 13,
-        }
+        self as u8
     }
 
     // What went wrong, in one sentence.

@@ -12,9 +12,10 @@ use refusal::Refusal;
 // The most samples whose octets a header can tell.
 const MOST_TOLD: usize = 2_147_483_629;
 
-// How many octets a header has, and a sample.
+// How many octets a header has.
 pub const HEADER: usize = 44;
 
+// How many octets a sample has.
 pub const SAMPLE: usize = 2;
 
 // The header before so many octets of samples.
@@ -42,7 +43,8 @@ pub fn write_wave(samples: &[i16], out: &mut [u8]) -> Result<usize, Refusal>
     let told = count.min(MOST_TOLD) as u32;
     let header = header(2 * told);
     out[0..HEADER].copy_from_slice(&header);
-    // By its place, since a proof knows no more of what was written through `chunks_exact_mut` once it is over.
+    // By its place: of what is written through `chunks_exact_mut` a proof knows nothing after the loop. Each writer has its
+    // own such loop, since one for all would take the block by a closure and promise what the closure does.
     for (i, sample) in samples.iter().enumerate() {
         let start = HEADER + SAMPLE * i;
         out[start..start + SAMPLE].copy_from_slice(&sample.to_le_bytes());

@@ -44,12 +44,12 @@ impl Not for Content {
     }
 }
 
-// An element on its way to the tones: a bit, or silence.
+// An element on its way to the tones: a bit, or silence, each with the octet that stands for it in memory.
 #[derive(Clone, Copy, PartialEq, Eq, Debug)]
 pub enum Element {
-    Zero,
-    One,
-    Mute,
+    Zero = 0,
+    One = 1,
+    Mute = 2,
 }
 
 // The element of a bit.
@@ -61,21 +61,18 @@ impl From<bool> for Element {
     }
 }
 
-// The octet that stands for an element in memory.
+// The octet of an element.
 impl From<Element> for u8 {
     ghost from_gives = { λ element r. r ≡ octet_of element };
 
     fn from(element: Element) -> u8 {
-        match element {
-            Element::Zero => 0,
-            Element::One => 1,
-            Element::Mute => 2,
-        }
+        element as u8
     }
 }
 
 // A stage between the coder and the tones. Its meaning is a fixed rule, and its answers are that meaning.
 pub trait Stage {
+    // The exchange names these three, and a stage gives each.
     // which counts of incoming elements it takes
     ghost takes: { Self → ℕ → Bool };
 
@@ -85,7 +82,7 @@ pub trait Stage {
     // what stands at each outgoing place
     ghost at: { Self → ℕ → ℕ → ContentOf };
 
-    // the three together: all that is said above a stage is said of its meaning
+    // the three together: every promise above a stage speaks of its meaning
     ghost meaning: { Self → Meaning };
 
     // the meaning is the three and nothing else
@@ -114,12 +111,13 @@ pub struct Marker {
     pub bit: bool,
 }
 
-// A stage that also tells its markers.
+// A stage that also tells its markers. They stand beside the meaning, which a stage has that tells none.
 pub trait MarkedStage: Stage {
     // its markers for each count of incoming elements, in order
     ghost markers: { Self → ℕ → List MarkerOf };
 
-    // How many markers there are when n elements enter. They stand at different places, each of which holds its bit.
+    // How many markers there are when n elements enter. They stand at different places, each of which holds its bit; the
+    // exchange asks for that in the promises of both calls.
     fn marker_count(&self, n: usize) -> Result<usize, Refusal>
         ensures count { result ≡ count_answer (Self.Stage.meaning self.now) (markers self.now) n }
         ensures marked { Marked (Self.Stage.meaning self.now) (markers self.now) n };

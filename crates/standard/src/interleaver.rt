@@ -9,7 +9,8 @@ use crate::MOST_ELEMENTS;
 use refusal::Refusal;
 use stage::{Content, MarkedStage, Marker, Stage, check_count, check_index};
 
-// How many preamble bits stand before each row.
+// How many preamble bits stand before each row. A table, and no search in the places, so that each answer takes the same
+// time.
 const BEFORE_ROW: [u8; 14] = [0, 7, 14, 20, 26, 31, 36, 40, 44, 47, 50, 52, 54, 55];
 
 // The places of the preamble, in order.
@@ -19,7 +20,8 @@ const PREAMBLE_PLACES: [u8; 56] = [
     86, 87, 94, 95, 103, 111,
 ];
 
-// Spreads elements over the columns, behind its preamble of 56 bits. The first is the highest bit of the first octet.
+// Spreads elements over the columns, behind its preamble of 56 bits. The preamble's first bit is the highest of its
+// first octet.
 #[derive(Clone, Copy)]
 pub struct Interleaver {
     pub preamble: [u8; 7],

@@ -10,14 +10,14 @@ ghost use Rattle.tone.specs.Tones.{hertz, tone_sample, tone_of, sample, samples,
 use refusal::Refusal;
 use std::array;
 
-// The tone of one frame.
+// The tone of one frame, with its frequency in hertz.
 #[derive(Clone, Copy, PartialEq, Eq, Debug)]
 pub enum Tone {
-    Silence,
-    Hz400,
-    Hz600,
-    Hz800,
-    Hz1000,
+    Silence = 0,
+    Hz400 = 400,
+    Hz600 = 600,
+    Hz800 = 800,
+    Hz1000 = 1000,
 }
 
 // One period of the sine in 40 steps, eight times its rounded values at an amplitude of 2047.
@@ -34,7 +34,8 @@ pub const FRAME: usize = 40;
 const MUTE: u8 = 2;
 
 impl Tone {
-    // The tone of a pair of elements: two mutes are silence, and a single mute is read as 1.
+    // The tone of a pair of elements: two mutes are silence, and a single mute is read as 1. It takes any two octets, as
+    // callers may hand it any.
     pub fn of(first: u8, second: u8) -> Tone
         ensures { result ≡ tone_of first second }
     {
@@ -51,13 +52,7 @@ impl Tone {
     pub fn frequency(self) -> u16
         ensures { result ≡ hertz self }
     {
-        match self {
-            Tone::Silence => 0,
-            Tone::Hz400 => 400,
-            Tone::Hz600 => 600,
-            Tone::Hz800 => 800,
-            Tone::Hz1000 => 1000,
-        }
+        self as u16
     }
 
     // How many steps of the period one sample goes on.
@@ -103,7 +98,8 @@ pub fn play(elements: &[u8], out: &mut [i16]) -> Result<usize, Refusal>
     if out.len() / FRAME < pairs.len() {
         return Err(Refusal::MemoryTooShort);
     }
-    // By its place, since a proof knows no more of what was written through `chunks_exact_mut` once it is over.
+    // By its place: of what is written through `chunks_exact_mut` a proof knows nothing after the loop. Each writer has its
+    // own such loop, since one for all would take the block by a closure and promise what the closure does.
     for (frame, [first, second]) in pairs.iter().enumerate() {
         let samples = Tone::of(*first, *second).samples();
         out[FRAME * frame..FRAME * frame + FRAME].copy_from_slice(&samples);

@@ -169,8 +169,8 @@ fn trace_back(work: &[u16], text: &mut [u8])
     }
 }
 
-// The search where the memory fits: both passes, over as many octets as `text` has places. The two stay apart, since
-// the first pass takes `work` alone and the caller lends them apart.
+// The search where the memory fits: both passes, over as many octets as `text` has places. `text` and `work` stay
+// apart, since the caller lends them apart and the first pass takes `work` alone.
 fn search<S: SoftBits>(source: &S, text: &mut [u8], work: &mut [u16]) -> u32
     requires { (length text.old ≤ 240) × (length work.old ≡ 8 * length text.old + 4) }
     ensures nearest { Nearest (S.SoftBits.cost source.now) (length text.old) text.new }

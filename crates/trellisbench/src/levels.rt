@@ -3,12 +3,14 @@ ghost use Rattle.std.specs.Prelude.{◌≡◌, ◌-◌, if◌then◌else◌, sli
 
 use trellis::SoftBits;
 
-// 0 is a 0 at full strength, 254 a 1 at full strength, and 127 says nothing.
-pub const LOST: u8 = 127;
-
+// The level of a 0 at full strength.
 const FULL_ZERO: u8 = 0;
 
+// The level of a 1 at full strength.
 const FULL_ONE: u8 = 254;
+
+// The level that says nothing.
+pub const LOST: u8 = 127;
 
 // The levels that were heard, a coded bit after the other.
 #[derive(Drop)]

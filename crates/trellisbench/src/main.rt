@@ -1,5 +1,5 @@
-// Times the search for the nearest text. With no argument it searches once and prints what it found; with a number of
-// rounds it searches so often and prints nanoseconds per bit of the text.
+// Times the search for the nearest text. With no argument, or with 0, it searches once and prints what it found; with a
+// number of rounds it searches so often and prints nanoseconds per bit of the text.
 #![tactic(auto)]
 
 mod levels;
@@ -9,6 +9,7 @@ mod trials;
 use code::{LONGEST_TEXT, encode};
 use levels::{LOST, Levels, full};
 use refusal::Refusal;
+use std::num::NonZeroU32;
 use std::time::Instant;
 use std::{array, env};
 use trellis::nearest_text;
@@ -72,17 +73,9 @@ impl Search {
     }
 }
 
-// What a run says: the distance and the text found, or how long a bit takes.
-fn report(rt: &HostRuntime, rounds: u32) -> anyhow::Result<()> {
+// Searches once and prints the distance and the text found.
+fn show(rt: &HostRuntime) -> anyhow::Result<()> {
     let mut search = Search::new()?;
-    let start = Instant::now(rt)?;
-    search.repeat(rounds)?;
-    let nanos = start.elapsed(rt)?.as_nanos();
-    let bits = u128::from(rounds) * 8 * LONGEST_TEXT as u128;
-    if bits > 0 {
-        println!(rt; "{} ns per text bit", nanos / bits)?;
-        return Ok(());
-    }
     let distance = search.run()?;
     println!(rt; "distance {distance}")?;
     for octet in search.text {
@@ -92,10 +85,24 @@ fn report(rt: &HostRuntime, rounds: u32) -> anyhow::Result<()> {
     Ok(())
 }
 
+// Searches so often and prints how long a bit of the text takes.
+fn time(rt: &HostRuntime, rounds: NonZeroU32) -> anyhow::Result<()> {
+    let mut search = Search::new()?;
+    let start = Instant::now(rt)?;
+    search.repeat(rounds.get())?;
+    let nanos = start.elapsed(rt)?.as_nanos();
+    let bits = u128::from(rounds.get()) * 8 * LONGEST_TEXT as u128;
+    println!(rt; "{} ns per text bit", nanos / bits)?;
+    Ok(())
+}
+
 fn main(rt: HostRuntime) -> anyhow::Result<()> {
     let rounds = match env::args(&rt)?.nth(1) {
-        Some(word) => word.as_str().parse::<u32>()?,
-        None => 0,
+        Some(word) => NonZeroU32::new(word.as_str().parse::<u32>()?),
+        None => None,
     };
-    report(&rt, rounds)
+    match rounds {
+        Some(rounds) => time(&rt, rounds),
+        None => show(&rt),
+    }
 }

@@ -1,6 +1,6 @@
 // Trials of the search: all strings of one octet scored by the plain sum, long texts with as much noise as is corrected,
 // the least noise that goes astray, and the refusals in their order.
-use crate::levels::{LOST, Levels, full, inverted};
+use crate::levels::{LOST, Levels, full};
 use code::encode;
 use refusal::Refusal;
 use std::array;
@@ -30,7 +30,11 @@ fn scored(octet: u8, levels: &[u8; 48]) -> u32 {
     let _ = encode(&[octet], &mut bits);
     let mut sum = 0u32;
     for (bit, level) in bits.iter().zip(levels.iter()) {
-        let cost = if *bit { inverted(*level) } else { *level };
+        let cost = if *bit {
+            254u8.saturating_sub(*level)
+        } else {
+            *level
+        };
         sum = sum.wrapping_add(u32::from(cost));
     }
     sum
@@ -53,7 +57,7 @@ fn spoil(levels: &mut [u8], places: &[usize], wrong: usize, lost: usize) {
     for (n, place) in places.iter().enumerate() {
         if let Some(level) = levels.get_mut(*place) {
             if n < wrong {
-                *level = inverted(*level);
+                *level = 254u8.saturating_sub(*level);
             } else if n - wrong < lost {
                 *level = LOST;
             }

@@ -12,12 +12,13 @@ use tone::check_elements;
 // The most frame lines of a file.
 pub const MOST_FRAMES: usize = 16_384;
 
-// How many characters the first line has, and the line of a frame.
+// How many characters the first line has.
 pub const FIRST_LINE: usize = 3;
 
+// How many characters the line of a frame has.
 pub const FRAME_LINE: usize = 5;
 
-// The character of a hexadecimal digit.
+// The character of a hexadecimal digit. `char::from_digit` gives the small letters.
 fn digit(n: u8) -> u8
     requires { n < 16 }
     ensures { result ≡ digit_of n }
@@ -81,7 +82,8 @@ pub fn write_values(m: usize, elements: &[u8], out: &mut [u8]) -> Result<usize, 
     }
     // The cast is proved to lose nothing, where `u8::try_from` would need an answer for what cannot be.
     out[0..FIRST_LINE].copy_from_slice(&first_line(m as u8));
-    // By its place, since a proof knows no more of what was written through `chunks_exact_mut` once it is over.
+    // By its place: of what is written through `chunks_exact_mut` a proof knows nothing after the loop. Each writer has its
+    // own such loop, since one for all would take the block by a closure and promise what the closure does.
     for (frame, [first, second]) in pairs.iter().enumerate() {
         let start = FIRST_LINE + FRAME_LINE * frame;
         let line = frame_line(*first, *second);

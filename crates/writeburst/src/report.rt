@@ -23,7 +23,7 @@ impl fmt::Display for Report<'_> {
         for line in coded.chunks(32) {
             write_marks(f, line, 4, |bit| if *bit { '1' } else { '0' })?;
         }
-        // by their octets, a mute as a dot
+        // eight together, a mute as a dot; they stand in memory as octets
         writeln!(f, "elements: {}", burst.len())?;
         for line in burst.chunks(64) {
             write_marks(f, line, 8, |element| match element {

@@ -20,16 +20,10 @@ const SAMPLES: [(usize, [u8; 2]); 6] = [
 fn handed_on(rt: HostRuntime) -> Result<(), Fail> {
     let heap = rt.alloc();
     let text = vec![in heap; 0u8]?;
-    let Ok(outgoing) = Outgoing::of(heap, text) else {
-        return Err(Fail::new("refused"));
-    };
-    let Ok(values) = outgoing.values(heap) else {
-        return Err(Fail::new("no values"));
-    };
+    let outgoing = Outgoing::of(heap, text)?;
+    let values = outgoing.values(heap)?;
     assert_eq!(rt; values.as_slice(), VALUES.as_slice());
-    let Ok(sound) = outgoing.sound(heap) else {
-        return Err(Fail::new("no sound"));
-    };
+    let sound = outgoing.sound(heap)?;
     assert_eq!(rt; sound.len(), 7_244);
     for (place, octets) in SAMPLES {
         assert_eq!(rt; sound.get(place).copied(), Some(octets[0]));
