@@ -36,6 +36,7 @@ pub enum Reading {
     Lost,
 }
 
+// Whether a level may be told. This range and the one below differ in their ends, and each is a rule with a name.
 fn is_level(x: f32) -> bool
     ensures { result ≡ is_level x }
 {

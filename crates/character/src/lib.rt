@@ -150,7 +150,8 @@ fn is_control(octet: u8) -> bool
     octet == ENQUIRY || octet == IDLE
 }
 
-// How many octets a text has besides its control characters.
+// How many octets a text has besides its control characters. The filter stands here and where they are removed, since no
+// function can hand out an iterator that it made.
 fn plain_length(text: &[u8]) -> usize
     ensures { result ≡ length (without_controls text.now) }
 {

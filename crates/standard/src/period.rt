@@ -26,7 +26,8 @@ pub(crate) fn is_silent(place: usize) -> bool
     first <= spot && spot <= first + 24
 }
 
-// How many mutes of the period stand before a place of it: four rows of eight, each 15 after the one before.
+// How many mutes of the period stand before a place of it: four rows of eight, each 15 after the one before. The numbers of
+// a row stand in its call, and go no further.
 #[tactic(auto, using(layout::proofs::InserterLaws::mutes_in_period))]
 fn mutes_before(spot: usize) -> usize
     requires { spot < 384 }
