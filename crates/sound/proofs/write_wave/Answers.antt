@@ -1,4 +1,4 @@
-use Rattle.std.proofs.Common.{◌≡◌, ℕ, ◌+◌, ◌-◌, ◌*◌, ltb, List, [], ◌++◌, length, get_or, pos, Ok, sym, refl, ap, ◌∙◌, append-nil, arith, w16, to_z, of_z, rules}
+use Rattle.std.proofs.Common.{◌≡◌, ℕ, ◌+◌, ◌-◌, ◌*◌, ltb, List, [], ◌++◌, length, get_or, pos, Ok, sym, refl, ap, ◌∙◌, arith, w16, to_z, of_z, rules}
 use borrow.Rule.Slice.PartMut.{put_mid}
 use Rattle.std.specs.List.{range_with_len, flat_map}
 use Rattle.std.proofs.lemmas.List.{length-append}
@@ -13,15 +13,6 @@ use Rattle.sound.proofs.write_wave.Goals as goal
 -- the header stands in front once it was copied
 laid_header : (size : ℕ) (copied out : List ℕ) → copied ≡ header_of size → put_mid 0 44 out copied ≡ laid (header_of size) out
 laid_header size copied out is = laid_more [] copied out 0 44 refl (ap length is ∙ header_length size) ∙ ap (λ l. laid l out) is
-
-pub loop-i-init : goal.loop-i-init
-loop-i-init c =
-    let out = c.args.out.now in
-    let size : ℕ = told_size (length c.args.samples.now) in
-    let header = header_of size in
-    let is = c.copy_from_slice.ensures.after ∙ c.header-header.ensures ∙ ap (λ n. header_of (2 * n)) c.min-told.ensures in
-    let stands = laid_header size c.copy_from_slice.new.self out is in
-    stands ∙ sym (laid_over header [] out ∙ ap (λ l. laid l out) (append-nil header)) ∙ ap (laid (header ++ [])) (sym stands)
 
 pub loop-i-preserved : goal.loop-i-preserved
 loop-i-preserved c =

@@ -1,8 +1,8 @@
 -- The survivors before the first step, after each, and after the last.
-use Rattle.std.proofs.Common.{◌≡◌, ◌^◌, ◌∷◌, length, set, replicate, sym, subst, add-one, arith, lit<, get_or-set_other, get_or-set_same}
+use Rattle.std.proofs.Common.{◌^◌, ◌∷◌, set, replicate, sym, subst, add-one, arith, get_or-set_other, get_or-set_same}
 use Rattle.distance.proofs.Reading.{label_cost_small, metric_small}
 use Rattle.distance.proofs.Traces.{begin_metrics, begins, step}
-use Rattle.distance.specs.Trellis.{Bounded, Survivors}
+use Rattle.distance.specs.Trellis.{Survivors}
 use Rattle.trellis.proofs.forward.Goals as goal
 
 pub loop-step-init : goal.loop-step-init
@@ -32,10 +32,3 @@ loop-step-preserved g c =
           (λ j h. get_or-set_other work k j decisions 0 (omega arith)) (get_or-set_same work k decisions 0 (omega arith)) c.advance-next.ensures),
       c.label_costs-costs.ensures.bounded c.loop-step.invariant.1,
     )
-
-pub returns : goal.returns
-returns g c =
-    let cost = g.S.SoftBits.cost c.args.source.now in
-    let e : c.loop-step.step ≡ length c.args.work.now = omega arith in
-    let r = subst (λ n. Survivors cost n c.loop-step.work c.loop-step.metrics) e c.loop-step.invariant.0 0 (lit< tt) in
-    record { best = r.0; metric = r.1; bounded = subst (λ n. Bounded cost n 65535) e c.loop-step.invariant.1 }

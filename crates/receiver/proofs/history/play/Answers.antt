@@ -9,9 +9,6 @@ use Rattle.receiver.proofs.Plays.{Played, turn, played_all}
 use Rattle.receiver.proofs.Law.{lawful}
 use Rattle.receiver.proofs.history.play.Goals as goal
 
-pub loop-i-init : goal.loop-i-init
-loop-i-init g c = (record { state = c.open-receiver.ensures.state; left = refl; replied = refl }, refl, refl)
-
 pub loop-i-preserved : goal.loop-i-preserved
 loop-i-preserved g c =
     let f : Call g.row.M.Denot → Request = as_request g.M.Stage.meaning g.M.MarkedStage.markers in
