@@ -1,4 +1,5 @@
 pub mod Elements
 pub mod Marked
 pub mod Meaning
+pub mod OneOfTwo
 pub mod Piled

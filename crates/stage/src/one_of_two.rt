@@ -1,6 +1,7 @@
 // One of two stages is a stage, so that one list can mix stages of different types.
 ghost use Rattle.either.specs.Either.{either};
 ghost use Rattle.either.specs.declared.Either.TheVariants.{Left, Right};
+ghost use Rattle.stage.specs.OneOfTwo.{either_homes};
 
 use crate::{Content, MarkedStage, Marker, Stage};
 use either::{Either, for_both};
@@ -17,7 +18,7 @@ impl<L: Stage, R: Stage> Stage for Either<L, R> {
 
     ghost whole = { elim [ Left s ↦ L.Stage.whole s | Right s ↦ R.Stage.whole s ] };
 
-    ghost homes = { elim [ Left s ↦ L.Stage.homes s | Right s ↦ R.Stage.homes s ] };
+    ghost homes = { either_homes L.Stage.meaning R.Stage.meaning L.Stage.homes R.Stage.homes };
 
     fn length(&self, n: usize) -> Result<usize, Refusal> {
         for_both!(self, stage => stage.length(n))
