@@ -136,11 +136,12 @@ impl Tally {
     }
 }
 
-// Whether one of a text's items is an enquiry. Its octet stands in no other item.
+// Whether one of a text's items is an enquiry. It counts the items that are read, so that the law over a text holds of what
+// a line goes by.
 pub fn holds_enquiry(text: &[u8]) -> bool
     ensures { result ≡ holds_enquiry text.now }
 {
-    text.contains(&ENQUIRY)
+    Tally::of(text).enquiries > 0
 }
 
 // Whether an octet is a control character.
@@ -150,12 +151,18 @@ fn is_control(octet: u8) -> bool
     octet == ENQUIRY || octet == IDLE
 }
 
-// How many octets a text has besides its control characters. The filter stands here and where they are removed, since no
-// function can hand out an iterator that it made.
+// How many octets a text has besides its control characters. Counted, here and where they are removed: a `filter` takes
+// twice the time.
 fn plain_length(text: &[u8]) -> usize
     ensures { result ≡ length (without_controls text.now) }
 {
-    text.iter().filter(|octet| !is_control(**octet)).count()
+    let mut length = 0;
+    for octet in text {
+        if !is_control(*octet) {
+            length += 1;
+        }
+    }
+    length
 }
 
 // Copies a text without its enquiries and idles into the first places of memory, and answers how many octets stay.
@@ -163,14 +170,15 @@ pub fn remove_controls(text: &[u8], memory: &mut [u8]) -> Result<usize, Refusal>
     ensures answer { result ≡ removal_answer text.now (length memory.old) }
     ensures memory { memory.new ≡ after result (without_controls text.now) memory.old }
 {
-    let length = plain_length(text);
-    if length > memory.len() {
+    if plain_length(text) > memory.len() {
         return Err(Refusal::MemoryTooShort);
     }
-    let plain = text.iter().copied().filter(|octet| !is_control(*octet));
-    // By its place: of what is written through `iter_mut` under a `zip`, a proof knows nothing afterwards.
-    for (place, octet) in plain.enumerate() {
-        memory[place] = octet;
+    let mut length = 0;
+    for &octet in text {
+        if !is_control(octet) {
+            memory[length] = octet;
+            length += 1;
+        }
     }
     Ok(length)
 }

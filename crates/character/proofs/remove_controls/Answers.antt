@@ -1,22 +1,57 @@
-use Rattle.std.proofs.Common.{rules, ◌≡◌, ◌<◌, not, length, set, ap, ◌∙◌, arith}
-use Rattle.std.proofs.lemmas.Iterator.{YieldsList-from_slice}
-use Rattle.std.proofs.lemmas.Iterator.Consumers.{YieldsList-at, YieldsList-from_copied, YieldsList-from_filter, YieldsList-from_enumerate, YieldsList-turn}
-use borrow.Author.Tests.{tests}
-use Rattle.character.specs.Controls.{is_control, without_controls}
-use Rattle.character.proofs.Controls.{turn, written_more}
+use Rattle.std.proofs.Common.{◌≡◌, ◌+◌, ◌<◌, ◌++◌, length, get_or, take, drop, set, Ok, sym, refl, ap, ◌∙◌, arith, take_all}
+use Rattle.character.specs.Controls.{without_controls}
+use Rattle.character.proofs.Controls.{control_more, text_more_length, front_least, written_more, refused, accepted}
 use Rattle.character.proofs.remove_controls.Goals as goal
+use Rattle.character.proofs.remove_controls.Goals.{then-not-is_control, else-not-is_control}
 
--- the item is the next of what stays of the text
-next_plain : (c : goal.In-Some) → (length c.loop-place.yielded < length (without_controls c.args.text.now)) × (c.in-Some.place ≡ length c.loop-place.yielded)
-next_plain c =
-    turn (without_controls c.args.text.now) (length c.loop-place.yielded) (c.in-Some.place, c.in-Some.octet)
-    (YieldsList-turn (YieldsList-at c.into_iter-place-iterator.ensures.into_iter_gives (YieldsList-from_enumerate (YieldsList-at c.enumerate-place-items.ensures.source (YieldsList-from_filter _ (λ b. not (is_control b)) (YieldsList-at c.filter-plain.ensures.source (YieldsList-from_copied (YieldsList-at c.copied.ensures.source (YieldsList-from_slice c.args.text.now cc)))) c.filter-plain.ensures.closure (λ x b q k. search (rules, tests)))) c.enumerate-place-items.ensures.count))
-    c.loop-place.yielded c.loop-place.place-iterator c.loop-place.yielded_by c.next.result c.next.new.self (c.in-Some.place, c.in-Some.octet) c.in-Some.is c.next.ensures.steps)
+pub returns-then-plain_length-memory : goal.returns-then-plain_length-memory
+returns-then-plain_length-memory c =
+    record { answer = refused c.args.text.now (length c.args.memory.now) (omega arith); memory = refl }
 
-pub bounds-memory-place : goal.bounds-memory-place
-bounds-memory-place c = omega (arith, next_plain c)
+-- the octet's place lies below what stays of the whole text
+below : (c : goal.Then-not-is_control) → c.loop-octet.length < length c.args.memory.now
+below c =
+    let text = c.args.text.now in
+    let i = c.loop-octet.octet-index in
+    omega (arith, c.loop-octet.invariant.0, text_more_length text i c.loop-octet-test.true (sym c.if-not-is_control.ensures), front_least text (i + 1), c.plain_length.ensures)
 
-pub loop-place-preserved : goal.loop-place-preserved
-loop-place-preserved c =
-    let n = next_plain c in
-    (search rules, search rules, ap (λ m. set m c.in-Some.place c.in-Some.octet) c.loop-place.invariant.2 ∙ written_more c.loop-place.yielded (c.in-Some.place, c.in-Some.octet) c.args.memory.now n.1 (omega arith))
+pub bounds-memory-length : goal.bounds-memory-length
+bounds-memory-length c = omega (arith, below c)
+
+pub overflow_add-length : goal.overflow_add-length
+overflow_add-length c = omega (arith, below c)
+
+pub loop-octet-preserved : goal.loop-octet-preserved
+loop-octet-preserved c =
+    let text = c.args.text.now in
+    let memory = c.args.memory.now in
+    let i = c.loop-octet.octet-index in
+    let n = c.loop-octet.length in
+    let l = c.loop-octet-test.true in
+    elim c.if-not-is_control.branch [
+      | then-not-is_control w ↦
+          (let e = sym w.if-not-is_control.ensures in
+          let more = text_more_length text i l e in
+          let within : n < length memory = omega (arith, c.loop-octet.invariant.0, more, front_least text (i + 1), c.plain_length.ensures) in (
+            omega (arith, w.length-is, c.loop-octet.invariant.0, more),
+            w.memory-is ∙ ap (λ xs. set xs n (get_or text i 0)) c.loop-octet.invariant.1 ∙ written_more text memory i n l e c.loop-octet.invariant.0 within
+                ∙ ap (λ m. without_controls (take (i + 1) text) ++ drop m memory) (sym w.length-is),
+          ))
+      | else-not-is_control w ↦
+          (let same = sym (control_more text i l (sym w.if-not-is_control.ensures)) in
+          let long = sym w.length-is in (
+            w.length-is ∙ c.loop-octet.invariant.0 ∙ ap length same,
+            w.memory-is ∙ c.loop-octet.invariant.1 ∙ (λ k. same k ++ drop (long k) memory),
+          ))
+    ]
+
+pub returns : goal.returns
+returns c =
+    let text = c.args.text.now in
+    let memory = c.args.memory.now in
+    let whole = take_all c.loop-octet.octet-index text (omega arith) in
+    let long : c.loop-octet.length ≡ length (without_controls text) = c.loop-octet.invariant.0 ∙ ap (λ xs. length (without_controls xs)) whole in
+    record {
+      answer = ap Ok long ∙ accepted text (length memory) (omega (arith, c.plain_length.ensures));
+      memory = c.loop-octet.invariant.1 ∙ (λ k. without_controls (whole k) ++ drop (long k) memory);
+    }

@@ -1,8 +1,8 @@
-use Rattle.std.proofs.Common.{◌≡◌, ◌++◌, length, drop, map}
+use Rattle.std.proofs.Common.{◌≡◌, ◌++◌, length, take, drop}
+use Rattle.character.specs.Controls.{without_controls}
 use Rattle.character.proofs.remove_controls.Given as goal
 
-abbrev pub invariant-loop-place : goal.invariant-loop-place
-invariant-loop-place l =
-    (goal.iterator-loop-place).can_next l.place-iterator ×
-    (goal.iterator-loop-place).is_finite l.place-iterator ×
-    (l.memory ≡ map (λ x. x.1) l.yielded ++ drop (length l.yielded) l.initial.memory)
+abbrev pub invariant-loop-octet : goal.invariant-loop-octet
+invariant-loop-octet l =
+    (l.length ≡ length (without_controls (take l.octet-index l.text)))
+    × (l.memory ≡ without_controls (take l.octet-index l.text) ++ drop l.length l.initial.memory)
