@@ -74,7 +74,9 @@ impl Line {
     pub fn open() -> Line
         ensures { result.state ≡ NewLine }
     {
-        Line { state: State::New }
+        Line {
+            state: State::default(),
+        }
     }
 
     // What the line knows of its far end.
@@ -194,7 +196,11 @@ impl Played {
     pub fn of(calls: &[Call]) -> Played
         ensures { Outcome calls.now result }
     {
-        let mut played = Played::default();
+        let line = Line::open();
+        let mut played = Played {
+            state: line.state,
+            ..Played::default()
+        };
         for call in calls {
             played.play(call);
         }
