@@ -115,10 +115,15 @@ pub fn encode(text: &[u8], out: &mut [bool]) -> Result<usize, Refusal>
         return Err(Refusal::MemoryTooShort);
     }
     let mut register = Register::default();
-    // By ranges: of what is written through `chunks_exact_mut` or `as_chunks_mut` a proof knows nothing after the loop.
+    // By place: of what is written through `chunks_exact_mut` or `as_chunks_mut` a proof knows nothing after the loop, and
+    // to copy the four as a slice takes twice the time.
     for k in 0..count / SUMS {
         register = register.shifted(bit_at(text, k));
-        out[SUMS * k..SUMS * (k + 1)].copy_from_slice(&register.sums());
+        let [s0, s1, s2, s3] = register.sums();
+        out[SUMS * k] = s0;
+        out[SUMS * k + 1] = s1;
+        out[SUMS * k + 2] = s2;
+        out[SUMS * k + 3] = s3;
     }
     Ok(count)
 }
