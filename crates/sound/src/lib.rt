@@ -30,6 +30,13 @@ fn header(size: u32) -> [u8; HEADER]
     header
 }
 
+// A sample in two's complement, the lowest octet first.
+fn octets(sample: i16) -> [u8; SAMPLE]
+    ensures { result ≡ two_octets (of_z w16 sample) }
+{
+    sample.to_le_bytes()
+}
+
 // Writes the sound file of the samples into the first places of `out` and answers its length.
 pub fn write_wave(samples: &[i16], out: &mut [u8]) -> Result<usize, Refusal>
     ensures answer { result ≡ wave_answer samples.now (length out.old) }
@@ -47,7 +54,7 @@ pub fn write_wave(samples: &[i16], out: &mut [u8]) -> Result<usize, Refusal>
     // own such loop, since one for all would take the block by a closure and promise what the closure does.
     for (i, sample) in samples.iter().enumerate() {
         let start = HEADER + SAMPLE * i;
-        out[start..start + SAMPLE].copy_from_slice(&sample.to_le_bytes());
+        out[start..start + SAMPLE].copy_from_slice(&octets(*sample));
     }
     Ok(HEADER + SAMPLE * count)
 }

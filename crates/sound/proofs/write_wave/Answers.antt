@@ -23,7 +23,7 @@ loop-i-preserved c =
     let start = put_mid 0 44 c.args.out.now c.copy_from_slice.new.self in
     let part = c.copy_from_slice-in-loop-i.new.self in
     let held : to_z w16 (of_z w16 (get_or c.args.samples.now i (pos 0))) ≡ get_or c.args.samples.now i (pos 0) = search rules in
-    let is : part ≡ f i = c.copy_from_slice-in-loop-i.ensures.after ∙ c.to_le_bytes.ensures ∙ ap (λ z. two_octets (of_z w16 z)) held in
+    let is : part ≡ f i = c.copy_from_slice-in-loop-i.ensures.after ∙ c.octets.ensures ∙ ap (λ z. two_octets (of_z w16 z)) held in
     let long : length before ≡ 44 + 2 * i = length-append header (flat_map f (range_with_len 0 i)) ∙ (λ x. header_length (told_size (length c.args.samples.now)) x + length-joined f 2 (λ _. refl) i x) in
     let two : 44 + 2 * i + 2 - (44 + 2 * i) ≡ 2 = omega arith in
     (λ x. put_mid (44 + 2 * i) (two x) (c.loop-i.invariant x) part)

@@ -1,4 +1,4 @@
-use Rattle.std.proofs.Common.{◌≡◌, ◌+◌, ◌<◌, length, take, drop, ◌++◌, set, refl, ap, ◌∙◌, arith}
+use Rattle.std.proofs.Common.{◌≡◌, ◌+◌, ◌<◌, length, take, drop, ◌++◌, set, refl, ap, ◌∙◌, arith, rules}
 use Rattle.std.proofs.lemmas.List.{length-take-le}
 use Rattle.refusal.proofs.Front.{filled, filled_more, filled_whole}
 use Rattle.transmitter.proofs.Octets.{octet_at, place_octet, place_not_refused, write_there, all_filled}
@@ -19,7 +19,8 @@ loop-place-preserved g c =
     let x = c.from.result in
     let part = take c.in_ok-length.length c.args.out.now in
     let within : p < length part = omega arith in
-    ap (λ l. set l p x) c.loop-place.invariant
+    ap (set c.loop-place.octet-items p) (search (rules, arith))
+    ∙ ap (λ l. set l p x) c.loop-place.invariant
     ∙ filled_more (octet_at m c.args.text.now) p (p + 1) part x refl within
     (place_octet m (g.S.Stage.homes s) c.args.text.now c.in_ok-n.n c.in_ok-n.ensures p
     c.in_ok-content.field-0 c.in_ok-element.field-0 x c.in_ok-content.ensures
