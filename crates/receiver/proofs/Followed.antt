@@ -1,7 +1,9 @@
 -- What a call has done to a receiver is what the rules say.
-use Rattle.std.proofs.Common.{◌≡◌, ℕ, ◌+◌, ◌≤◌, List, ◌++◌, length, take, drop, replicate, ℤ, pos, sym, arith, rules}
+use Rattle.std.proofs.Common.{◌≡◌, ℕ, ◌+◌, ◌≤◌, List, ◌++◌, length, take, drop, replicate, ℤ, pos, Ok, sym, refl, ap, ◌∙◌, arith, rules}
 use Rattle.std.proofs.lemmas.List.{places, same_lists, take-append-drop, length-take-le}
-use Rattle.receiver.specs.State.{Request, next, erased}
+use Rattle.stage.specs.declared.Marker.{Marker}
+use Rattle.stage.specs.Meaning.{Meaning}
+use Rattle.receiver.specs.State.{Request, finds, find_answer, next, erased}
 use Rattle.receiver.specs.Held.{memory_of, room, held, Follows}
 use Rattle.receiver.specs.declared.memory.Receiver.{Receiver}
 
@@ -15,6 +17,14 @@ settled before after call state long rest same =
       long = long;
       same = same;
     }
+
+-- a burst was found
+pub found_follows : (before after : Receiver) (pile : Meaning) (markers : ℕ → List Marker) (m : ℕ) (best : ℕ × ℤ) → after.values ≡ before.values → after.count ≡ before.count → after.start ≡ best.0 → find_answer (held before) pile markers m ≡ Ok best → Follows before (finds pile markers m) after
+found_follows before after pile markers m best values count start accepted =
+    let memory : memory_of after ≡ memory_of before = ap (λ v. v.now) values in
+    let standing : take after.count (memory_of after) ≡ take before.count (memory_of before) = rw (memory, count) refl in
+    let state : held after ≡ next (room before) (held before) (finds pile markers m) = rw accepted (ap (λ v. record { standing = v; start = after.start }) standing ∙ ap (λ s. record { standing = take before.count (memory_of before); start = s }) start) in
+    settled before after (finds pile markers m) state (ap length memory) (ap (drop after.count) memory) (ap (λ x. x.ghost_name) values)
 
 -- what stands after n values were set to 0
 pub take_erased : (memory : List ℤ) (count place n : ℕ) → place + n ≤ count → count ≤ length memory → take count (take place memory ++ (replicate n (pos 0) ++ drop n (drop place memory))) ≡ erased (take count memory) place n

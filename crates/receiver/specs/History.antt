@@ -92,5 +92,5 @@ as_request meaning markers (Find pile m) = finds (meaning pile.now) (markers pil
 -- an answer of the code, case by case
 abbrev pub as_reply : Result Accepted Refusal → Reply
 as_reply (Ok Done) = done
-as_reply (Ok (Found start greatest)) = found start greatest
+as_reply (Ok (Found greatest start)) = found start greatest
 as_reply (Err e) = refused e

@@ -23,7 +23,8 @@ pub enum Call<'c, M> {
 #[derive(Clone, Copy, PartialEq, Eq, Debug)]
 pub enum Accepted {
     Done,
-    Found { start: usize, fit: i32 },
+    // fields lie in this order: with the fit before the start an answer takes 24 octets, and else 32
+    Found { fit: i32, start: usize },
 }
 
 // What a call answers.
