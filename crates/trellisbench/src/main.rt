@@ -43,16 +43,15 @@ struct Search {
 }
 
 impl Search {
-    // The search before its first run, with the text heard.
-    fn new() -> Result<Search, Refusal> {
+    // Fills in the levels at which the text is heard. In place, since the stack is to hold them once.
+    fn hear(&mut self) -> Result<(), Refusal> {
         let sent: [u8; LONGEST_TEXT] = array::from_fn(octet);
         let mut bits = [false; CODED_BITS];
         encode(&sent, &mut bits)?;
-        Ok(Search {
-            heard: array::from_fn(|i| level(bits[i], i)),
-            text: [0; LONGEST_TEXT],
-            work: [0; STEPS],
-        })
+        for (i, (heard, bit)) in self.heard.iter_mut().zip(bits.iter()).enumerate() {
+            *heard = level(*bit, i);
+        }
+        Ok(())
     }
 
     // Searches once, and answers the distance.
@@ -74,8 +73,7 @@ impl Search {
 }
 
 // Searches once and prints the distance and the text found.
-fn show(rt: &HostRuntime) -> anyhow::Result<()> {
-    let mut search = Search::new()?;
+fn show(rt: &HostRuntime, search: &mut Search) -> anyhow::Result<()> {
     let distance = search.run()?;
     println!(rt; "distance {distance}")?;
     for octet in search.text {
@@ -86,8 +84,7 @@ fn show(rt: &HostRuntime) -> anyhow::Result<()> {
 }
 
 // Searches so often and prints how long a bit of the text takes.
-fn time(rt: &HostRuntime, rounds: NonZeroU32) -> anyhow::Result<()> {
-    let mut search = Search::new()?;
+fn time(rt: &HostRuntime, search: &mut Search, rounds: NonZeroU32) -> anyhow::Result<()> {
     let start = Instant::now(rt)?;
     search.repeat(rounds.get())?;
     let nanos = start.elapsed(rt)?.as_nanos();
@@ -101,8 +98,14 @@ fn main(rt: HostRuntime) -> anyhow::Result<()> {
         Some(word) => NonZeroU32::new(word.as_str().parse::<u32>()?),
         None => None,
     };
+    let mut search = Search {
+        heard: [LOST; CODED_BITS],
+        text: [0; LONGEST_TEXT],
+        work: [0; STEPS],
+    };
+    search.hear()?;
     match rounds {
-        Some(rounds) => time(&rt, rounds),
-        None => show(&rt),
+        Some(rounds) => time(&rt, &mut search, rounds),
+        None => show(&rt, &mut search),
     }
 }
